@@ -1,0 +1,1 @@
+// No code stands here: this crate is the words of specs/ and the laws of proofs/.
