@@ -74,7 +74,7 @@ impl Align {
     pub fn byte_align(self) -> u64
         ensures { λ r. ⌜ r ≡ sizeOf 1 (self .0) ⌝ }
     {
-        let shift = self.0;
+        let shift = self.shift();
         if shift <= Align::MAX_SHIFT {
             1 << shift
         } else {
@@ -86,7 +86,7 @@ impl Align {
     pub fn bit_align(self) -> u64
         ensures { λ r. ⌜ r ≡ sizeOf bitsInByte (self .0) ⌝ }
     {
-        let shift = self.0;
+        let shift = self.shift();
         if shift <= Align::MAX_SHIFT - BITS_SHIFT {
             BITS_IN_BYTE << shift
         } else {
