@@ -27,7 +27,9 @@ alignment-of-eq zero unit n shift pos lt e = absurd (omega arith)
 alignment-of-eq (suc top) unit n shift pos lt e =
     ⊎-elim
     (λ here. rw (← here, eq-eqb n (unit * 2 ^ shift) e))
-    (λ below. rw (ne-eqb n (unit * 2 ^ top) (λ f. size-differs unit shift top pos below (sym e ∙ f))) (alignment-of-eq top unit n shift pos below e))
+    (λ below.
+    let ne = ne-eqb n (unit * 2 ^ top) (λ f. size-differs unit shift top pos below (sym e ∙ f)) in
+    rw ne (alignment-of-eq top unit n shift pos below e))
     (eq-or-lt-of-le {n = shift} {m = top} (omega arith))
 
 pub alignment-none : (limit unit n : ℕ) → ((shift : ℕ) → shift < limit → n ≡ unit * 2 ^ shift → ⊥) → shiftBelow limit unit n ≡ Bad

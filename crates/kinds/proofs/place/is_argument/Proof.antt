@@ -14,7 +14,10 @@ returns c = allowed-of-keys argument (7 ∷ 14 ∷ []) (c .before .args .kind) t
 
 -- any other
 returns-2 : tie.Need-returns-2
-returns-2 c = allowed-of-apart argument (c .before .args .kind) (omega (arith, apart-of-none (7 ∷ 14 ∷ []) (c .before .args .kind) (c .match .rest .1)))
+returns-2 c =
+    let kind = c .before .args .kind in
+    let others = apart-of-none (7 ∷ 14 ∷ []) kind (c .match .rest .1) in
+    allowed-of-apart argument kind (omega arith)
 
 pub is-argument-spec : {M : Type 1} → statement M
 is-argument-spec = tie.close (tie.spec returns returns-2)

@@ -8,11 +8,15 @@ use Rattle.kinds.proofs.place.is_pointee.Tie as tie
 
 -- Void to Metadata
 returns : tie.Need-returns
-returns c = allowed-of-run pointee 7 3 (c .before .before .args .kind) tt (omega arith) (omega arith)
+returns c =
+    let kind = c .before .before .args .kind in
+    allowed-of-run pointee 7 3 kind tt (omega arith) (omega arith)
 
 -- X86Amx, Token
 returns-2 : tie.Need-returns-2
-returns-2 c = allowed-of-run pointee 11 2 (c .before .before .before .before .args .kind) tt (omega arith) (omega arith)
+returns-2 c =
+    let kind = c .before .before .before .before .args .kind in
+    allowed-of-run pointee 11 2 kind tt (omega arith) (omega arith)
 
 -- below Void
 returns-3 : tie.Need-returns-3

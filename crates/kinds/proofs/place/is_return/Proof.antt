@@ -21,7 +21,9 @@ returns-3 c = allowed-of-keys returned (14 ∷ []) (c .before .args .kind) tt (c
 
 -- Label, Metadata
 returns-4 : tie.Need-returns-4
-returns-4 c = allowed-of-run returned 8 2 (c .before .before .before .args .kind) tt (omega arith) (omega arith)
+returns-4 c =
+    let kind = c .before .before .before .args .kind in
+    allowed-of-run returned 8 2 kind tt (omega arith) (omega arith)
 
 pub is-return-spec : {M : Type 1} → statement M
 is-return-spec = tie.close (tie.spec returns returns-2 returns-3 returns-4)

@@ -27,8 +27,8 @@ abbrev μ-loop : tie.MeasureT-loop
 below-top : (bit shift : ℕ) → bit ≡ 2 ^ shift → shift < maxShift → bit ≤ 2 ^ 62
 below-top bit shift is lt = rw is (pow-mono {i = shift} {j = 62} (omega arith))
 
-Looked-more : (value bit shift : ℕ) → Looked value bit shift → shift < maxShift → (value ≡ bit → ⊥) → Looked value (bit * 2) (shift + 1)
-Looked-more value bit shift l lt ne =
+Looked-more : {value bit shift : ℕ} → Looked value bit shift → shift < maxShift → (value ≡ bit → ⊥) → Looked value (bit * 2) (shift + 1)
+Looked-more {value} {bit} {shift} l lt ne =
     let is = l .is-power in
     let p : 2 ^ (shift + 1) ≡ 2 ^ shift * 2 = rw add-one (pow-suc 2 shift) in
     record {
@@ -58,9 +58,7 @@ loop-less : tie.Need-loop-less Inv-loop μ-loop
 loop-less c = omega arith
 
 loop-again : tie.Need-loop-again Inv-loop μ-loop
-loop-again c =
-    let at-loop = c .before .before in
-    Looked-more (at-loop .before .args .value) (at-loop .loop .bit) (at-loop .loop .shift) (at-loop .loop .inv) (c .before .loop-test .taken) (c .if1 .left)
+loop-again c = Looked-more (c .before .before .loop .inv) (c .before .loop-test .taken) (c .if1 .left)
 
 returns-2 : tie.Need-returns-2 Inv-loop μ-loop
 returns-2 c =
@@ -71,7 +69,8 @@ returns-3 : tie.Need-returns-3 Inv-loop μ-loop
 returns-3 c =
     let at-loop = c .before .before in
     let last : at-loop .loop .shift ≡ maxShift = omega arith in
-    let none = alignment-more (at-loop .loop .shift) 1 (at-loop .before .args .value) (at-loop .loop .inv .none-yet) (λ e. c .if2 .left (omega arith)) in
+    let value = at-loop .before .args .value in
+    let none = alignment-more (at-loop .loop .shift) 1 value (at-loop .loop .inv .none-yet) (λ e. c .if2 .left (omega arith)) in
     sym (rw last at none)
 
 pub log2-spec : {M : Type 1} → statement M
