@@ -7,7 +7,8 @@ use mathlib.Core.List.{List, [], _∷_}
 use Prim.Native.Nat.{ℕ}
 use lib.Dec.{eqb}
 use Rattle.kinds.specs.declared.code.TypeCode.{TypeCode}
-use Rattle.kinds.specs.declared.code.TypeCode.the-variants.{NumEntry, Plain, Opaque, Integer, Pointer, FunctionOld, Array, Vector, StructAnon, StructName, StructNamed, Function, OpaquePointer, Unknown}
+use Rattle.kinds.specs.declared.code.TypeCode.the-variants.{NumEntry, Plain, Opaque, Integer, Pointer, FunctionOld, Array, Vector}
+use Rattle.kinds.specs.declared.code.TypeCode.the-variants.{StructAnon, StructName, StructNamed, Function, OpaquePointer, Unknown}
 use Rattle.kinds.specs.Kinds.{half, bFloat, float, double, x86Fp80, fp128, ppcFp128, void, label, metadata, x86Mmx, x86Amx, token}
 
 pub record Numbered : Type 0 where

@@ -6,7 +6,8 @@ use mathlib.Core.Bool.{Bool, not}
 use mathlib.Core.List.{List, [], _∷_, _++_}
 use Prim.Native.Nat.{ℕ}
 use Rattle.laws.specs.Numbers.{listed}
-use Rattle.kinds.specs.Kinds.{half, bFloat, float, double, x86Fp80, fp128, ppcFp128, void, label, metadata, x86Amx, token, integer, function, pointer, scalableVector}
+use Rattle.kinds.specs.Kinds.{half, bFloat, float, double, x86Fp80, fp128, ppcFp128, void, label, metadata, x86Amx, token}
+use Rattle.kinds.specs.Kinds.{integer, function, pointer, scalableVector}
 
 pub data NotAllowed : Type 0 where
   these : List ℕ → NotAllowed
