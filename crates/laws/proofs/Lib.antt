@@ -1,3 +1,6 @@
 pub mod Bools
 pub mod Numbers
 pub mod Rests
+pub mod Stretches
+pub mod Runs
+pub mod Lists

@@ -1,0 +1,132 @@
+// "An entry asks its list of references, and the list asks its entries" (01, "Resolution"). The witness holds a mark for each entry:
+// 0 not started; one more than its depth while it is on the path; then its rank and FINISHED. At a ring all marks are cleared, and
+// each entry of the ring writes itself as the answer goes back over it, so that no path is stored.
+ghost use mathlib.Core.Path.{_≡_};
+ghost use mathlib.Core.List.{List};
+ghost use mathlib.Core.Bool.{cond};
+ghost use Prim.Native.Nat.{ℕ, _+_, _-_, _≤_, _<_, max};
+ghost use lib.Dec.{leb};
+ghost use lib.ListN.{length, set, take, drop};
+ghost use Rattle.ranks.specs.Walk.{unstarted, entry, stretch, judged};
+ghost use Rattle.rules.specs.Lawful.{ruleAt, tableOf, maxEntries};
+ghost use Rattle.walk.specs.Marks.{plainly, Path, Ready, Kept, Shows, Finished};
+use crate::Fault;
+use crate::Judged;
+use crate::Walked;
+use crate::judge::clipped;
+use crate::judge::judge;
+use rules::MAX_ENTRIES;
+use rules::counts;
+use table::Rank;
+use table::buffer::clear_words;
+use table::row::row_at;
+
+const FINISHED: u64 = MAX_ENTRIES + 1;
+
+// "one more than the largest rank it refers to": of the references so far, whose rank is best, and of one more.
+fn above(best: Rank, rank: Rank) -> Rank
+    requires { ⌜ rank .0 < maxEntries ⌝ }
+    ensures { λ r. ⌜ r .0 ≡ max (best .0) (rank .0 + 1) ⌝ }
+{
+    let next = rank.0 + 1;
+    if best.0 < next { Rank(next) } else { best }
+}
+
+fn less(a: usize, b: usize) -> usize
+    ensures { λ r. ⌜ r ≡ a - b ⌝ }
+{
+    if b <= a { a - b } else { 0 }
+}
+
+// An entry at that depth of the path is in the ring if the entry met again was begun no deeper.
+fn enter_ring(marks: &mut [u64], depth: usize, from: usize, e: usize)
+    ensures { λ _. ⌜ now (marks .exit) ≡ cond (leb from depth) (set (now (marks .entry)) (depth - from) e) (now (marks .entry)) ⌝ }
+{
+    if from <= depth {
+        let i = depth - from;
+        if i < marks.len() {
+            marks[i] = e as u64;
+        }
+    }
+}
+
+// "then its own rule is judged": the references of e are resolved, and give it the rank.
+fn finish(rows: &[u64], refs: &[u64], marks: &mut [u64], e: usize, rank: Rank) -> Walked
+    requires within { ⌜ e < length (now marks) ⌝ }
+    requires low { ⌜ rank .0 < maxEntries ⌝ }
+    ensures { λ r. ⌜ Finished (now (marks .entry)) (now (marks .exit)) e (rank .0) r (judged (ruleAt (now (rows .entry)) (now (refs .entry)) e) e (plainly (now (marks .entry))) (rank .0)) ⌝ }
+{
+    match judge(rows, refs, e) {
+        Judged::Kept => {
+            marks[e] = rank.0 + FINISHED;
+            Walked::Ranked(rank)
+        }
+        Judged::Broken(fault) => Walked::Refused(e, fault),
+    }
+}
+
+fn resolve_entry(rows: &[u64], refs: &[u64], marks: &mut [u64], depth: usize, e: usize) -> Walked
+    requires within { ⌜ e < length (now marks) ⌝ }
+    requires ready { ⌜ Ready (now marks) depth depth ⌝ }
+    ensures kept { λ r. ⌜ Kept r (now (marks .entry)) (now (marks .exit)) depth (depth + 1) ⌝ }
+    ensures shows { λ r. ⌜ ((f : ℕ) (p : List ℕ) → unstarted (now (marks .entry)) ≤ f → length p ≡ depth → Path p (now (marks .entry)) → Shows p (now (marks .exit)) r (entry f (tableOf (now (rows .entry)) (now (refs .entry)) (length (now (marks .entry)))) p (plainly (now (marks .entry))) e)) ⌝ }
+{
+    let m = marks[e];
+    if FINISHED <= m {
+        return Walked::Ranked(Rank(m - FINISHED));
+    }
+    if m != 0 {
+        let from = (m - 1) as usize;
+        let len = less(depth, from);
+        clear_words(marks);
+        return Walked::Ring(e, from, len);
+    }
+    marks[e] = depth as u64 + 1;
+    let row = row_at(rows, e);
+    let part = clipped(row.first, row.count, refs.len());
+    let at = part.at;
+    let left = part.left;
+    match resolve_stretch(rows, refs, marks, depth + 1, e, at, left, Rank(0)) {
+        Walked::Ranked(rank) => finish(rows, refs, marks, e, rank),
+        Walked::Ring(k, from, len) => {
+            enter_ring(marks, depth, from, e);
+            Walked::Ring(k, from, len)
+        }
+        other => other,
+    }
+}
+
+fn resolve_stretch(
+    rows: &[u64],
+    refs: &[u64],
+    marks: &mut [u64],
+    depth: usize,
+    e: usize,
+    at: usize,
+    left: usize,
+    best: Rank,
+) -> Walked
+    requires within { ⌜ at + left ≤ length (now refs) ⌝ }
+    requires ready { ⌜ Ready (now marks) depth (best .0 + depth) ⌝ }
+    ensures kept { λ r. ⌜ Kept r (now (marks .entry)) (now (marks .exit)) depth depth ⌝ }
+    ensures shows { λ r. ⌜ ((f : ℕ) (p : List ℕ) → unstarted (now (marks .entry)) ≤ f → length p ≡ depth → Path p (now (marks .entry)) → Shows p (now (marks .exit)) r (stretch (tableOf (now (rows .entry)) (now (refs .entry)) (length (now (marks .entry)))) (entry f (tableOf (now (rows .entry)) (now (refs .entry)) (length (now (marks .entry)))) p) e (plainly (now (marks .entry))) (best .0) (take left (drop at (now (refs .entry)))))) ⌝ }
+{
+    if left == 0 {
+        return Walked::Ranked(best);
+    }
+    let to = refs[at];
+    let k = to as usize;
+    if marks.len() <= k {
+        return Walked::Refused(e, Fault::OutOfRange(to));
+    }
+    if !counts(row_at(rows, e), row_at(rows, k)) {
+        return resolve_stretch(rows, refs, marks, depth, e, at + 1, left - 1, best);
+    }
+    match resolve_entry(rows, refs, marks, depth, k) {
+        Walked::Ranked(rank) => {
+            let next = above(best, rank);
+            resolve_stretch(rows, refs, marks, depth, e, at + 1, left - 1, next)
+        }
+        other => other,
+    }
+}
