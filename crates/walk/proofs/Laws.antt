@@ -5,3 +5,5 @@ pub mod Ready
 pub mod Rings
 pub mod Walk
 pub mod Calls
+pub mod Pass
+pub mod Witness

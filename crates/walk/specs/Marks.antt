@@ -59,6 +59,10 @@ Kept (Ranked k) before after d c = RankKept before after d (k .0 + c)
 Kept (Ring k from n) before after d c = Unit {0}
 Kept (Refused e f) before after d c = Unit {0}
 
+-- the rank of a finished entry
+abbrev pub ranked : ℕ → ℕ
+ranked m = m - finished
+
 -- the words of the first m are still 0
 abbrev pub blank : ℕ → List ℕ → List ℕ
 blank m l = zeros m ++ drop m l

@@ -2,26 +2,30 @@
 // 0 not started; one more than its depth while it is on the path; then its rank and FINISHED. At a ring all marks are cleared, and
 // each entry of the ring writes itself as the answer goes back over it, so that no path is stored.
 ghost use mathlib.Core.Path.{_≡_};
-ghost use mathlib.Core.List.{List};
-ghost use mathlib.Core.Bool.{cond};
-ghost use Prim.Native.Nat.{ℕ, _+_, _-_, _≤_, _<_, max};
-ghost use lib.Dec.{leb};
-ghost use lib.ListN.{length, set, take, drop};
+ghost use Prim.Native.Nat.{ℕ, _+_, _≤_, _<_, max};
+ghost use mathlib.Core.List.{List, []};
+ghost use lib.ListN.{length, take, drop};
+ghost use Rattle.table.specs.Buffers.{zeros};
 ghost use Rattle.ranks.specs.Walk.{unstarted, entry, stretch, judged};
+ghost use Rattle.ranks.specs.Walk as ranks;
 ghost use Rattle.rules.specs.Lawful.{ruleAt, tableOf, maxEntries};
+ghost use Rattle.walk.specs.Resolve.{entriesOf, Resolves};
 ghost use Rattle.walk.specs.Marks.{plainly, Path, Ready, Kept, Shows, Finished};
 use crate::Fault;
 use crate::Judged;
+use crate::Resolution;
 use crate::Walked;
 use crate::judge::clipped;
 use crate::judge::judge;
-use rules::MAX_ENTRIES;
+use crate::marks::FINISHED;
+use crate::marks::enter_ring;
+use crate::marks::entries;
+use crate::marks::less;
+use crate::marks::settle;
 use rules::counts;
 use table::Rank;
 use table::buffer::clear_words;
 use table::row::row_at;
-
-const FINISHED: u64 = MAX_ENTRIES + 1;
 
 // "one more than the largest rank it refers to": of the references so far, whose rank is best, and of one more.
 fn above(best: Rank, rank: Rank) -> Rank
@@ -30,24 +34,6 @@ fn above(best: Rank, rank: Rank) -> Rank
 {
     let next = rank.0 + 1;
     if best.0 < next { Rank(next) } else { best }
-}
-
-fn less(a: usize, b: usize) -> usize
-    ensures { λ r. ⌜ r ≡ a - b ⌝ }
-{
-    if b <= a { a - b } else { 0 }
-}
-
-// An entry at that depth of the path is in the ring if the entry met again was begun no deeper.
-fn enter_ring(marks: &mut [u64], depth: usize, from: usize, e: usize)
-    ensures { λ _. ⌜ now (marks .exit) ≡ cond (leb from depth) (set (now (marks .entry)) (depth - from) e) (now (marks .entry)) ⌝ }
-{
-    if from <= depth {
-        let i = depth - from;
-        if i < marks.len() {
-            marks[i] = e as u64;
-        }
-    }
 }
 
 // "then its own rule is judged": the references of e are resolved, and give it the rank.
@@ -129,4 +115,51 @@ fn resolve_stretch(
         }
         other => other,
     }
+}
+
+// "From entry 0 upward".
+fn resolve_upward(rows: &[u64], refs: &[u64], marks: &mut [u64]) -> Walked
+    requires few { ⌜ length (now marks) ≤ maxEntries ⌝ }
+    requires fresh { ⌜ now marks ≡ zeros (length (now marks)) ⌝ }
+    ensures { λ r. ⌜ Shows [] (now (marks .exit)) r (ranks.resolve (tableOf (now (rows .entry)) (now (refs .entry)) (length (now (marks .entry))))) ⌝ }
+{
+    let n = marks.len();
+    let mut i = 0;
+    while i < n {
+        match resolve_entry(rows, refs, marks, 0, i) {
+            Walked::Ranked(_) => {
+                i += 1;
+            }
+            other => return other,
+        }
+    }
+    Walked::Ranked(Rank(0))
+}
+
+// The marks become the ranks; "19 leaves its ring first in the witness"; else "outputs all zero".
+fn resolve_marks(rows: &[u64], refs: &[u64], marks: &mut [u64]) -> Resolution
+    requires few { ⌜ length (now marks) ≤ maxEntries ⌝ }
+    requires fresh { ⌜ now marks ≡ zeros (length (now marks)) ⌝ }
+    ensures { λ r. ⌜ Resolves (now (rows .entry)) (now (refs .entry)) (length (now (marks .entry))) (length (now (marks .entry))) r (now (marks .exit)) ⌝ }
+{
+    match resolve_upward(rows, refs, marks) {
+        Walked::Ranked(_) => {
+            settle(marks);
+            Resolution::Accepted
+        }
+        Walked::Ring(k, _, len) => Resolution::Cycle(k, len),
+        Walked::Refused(e, fault) => {
+            clear_words(marks);
+            Resolution::Refused(e, fault)
+        }
+    }
+}
+
+// The second pass over the first `count` entries, as far as rows, witness and 4,096 reach.
+pub fn resolve(rows: &[u64], refs: &[u64], count: usize, witness: &mut [u64]) -> Resolution
+    ensures { λ r. ⌜ Resolves (now (rows .entry)) (now (refs .entry)) (entriesOf count (length (now (rows .entry))) (length (now (witness .entry)))) (length (now (witness .entry))) r (now (witness .exit)) ⌝ }
+{
+    clear_words(witness);
+    let n = entries(count, rows.len(), witness.len());
+    resolve_marks(rows, refs, &mut witness[..n])
 }

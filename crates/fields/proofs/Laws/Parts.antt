@@ -1,13 +1,17 @@
 -- Laws of specs/Parts.antt.
 --     upTo-..             one for each way through a turn of the search for the end of a part
 --     endOf-bound         a part ends in the string
+--     endOf-next          and so does the separator behind it, where it is not the last
 --     partsOf-last        the part that starts at `from` is the last
 --     partsOf-more        another one stands behind it
+--     partsOf-head        it is the first of the parts from there on
 -- Assumes nothing.
 use mathlib.Core.Path.{_≡_, refl, sym, _∙_}
 use mathlib.Core.Bool.{Bool, true, false, cond}
 use mathlib.Core.List.{List, [], _∷_}
 use Prim.Native.Nat.{ℕ, zero, suc, _+_, _-_, _≤_, _<_}
+use mathlib.Core.Logic.{⊎-elim}
+use native.Mathlib.Nat.{eq-or-lt-of-le}
 use native.Mathlib.Numerals.{add-one}
 use native.Mathlib.Omega.{arith}
 use lib.Dec.{eqb}
@@ -65,6 +69,9 @@ module _ (b : ℕ) (s : List ℕ) (from end : ℕ) (in-s : from ≤ length s) (i
   pub endOf-bound : (from ≤ end) × (end ≤ length s)
   endOf-bound = (omega arith, omega (arith, upTo-le b (drop from s), length-drop from s))
 
+  pub endOf-next : (end ≡ length s → ⊥) → end + 1 ≤ length s
+  endOf-next more = omega (arith, endOf-bound)
+
   cut : end - from ≡ upTo b (drop from s)
   cut = omega arith
 
@@ -77,3 +84,11 @@ module _ (b : ℕ) (s : List ℕ) (from end : ℕ) (in-s : from ≤ length s) (i
   partsOf-more ne =
       let next : end + 1 ≡ from + suc (upTo b (drop from s)) = omega arith in
       rw (cut, next, ← drop-drop) (first b (drop from s) (omega (arith, endOf-bound, length-drop from s)))
+
+  -- in either case the part is the first
+  pub partsOf-head : (P : List (List ℕ) → Type 0) → ((more : List (List ℕ)) → P (take (end - from) (drop from s) ∷ more)) → P (partsOf b (drop from s))
+  partsOf-head P h =
+      ⊎-elim
+      (λ last. rw (partsOf-last last) (h []))
+      (λ lt. rw (partsOf-more (λ last. omega arith)) (h (partsOf b (drop (end + 1) s))))
+      (eq-or-lt-of-le {n = end} {m = length s} (endOf-bound .1))

@@ -61,10 +61,11 @@ module _ (rows refs ms : List ℕ) (d e : ℕ) (l : List ℕ) (a : Walked) (h : 
       → (o : Out) × (Shows (p ++ e ∷ []) l a o) × (entry f (tableOf rows refs (length ms)) p (plainly ms) e ≡ andThen o (finish (tableOf rows refs (length ms)) e))
   below f p le size path =
       let s = entry-starts (tableOf rows refs (length ms)) p ms e d (h .new) (h .lt) (depth-few ms e d (h .lt) (h .new) (h .ready)) f le in
-      let w = h .left .1 (s .0) (p ++ e ∷ []) (s .1) (simp length-append (omega arith)) (Path-begun p ms e path (h .lt) (h .new) d size) in
-      (stretch (tableOf rows refs (length ms)) (entry (s .0) (tableOf rows refs (length ms)) (p ++ e ∷ [])) e (plainly (set ms e (d + 1))) 0 (refsAt rows refs e),
+      let w = h .left .1 (s .0) (p ++ e ∷ []) (s .1) (simp length-append (omega arith)) (Path-begun p ms e path (h .lt) (h .new) d size) in (
+        stretch (tableOf rows refs (length ms)) (entry (s .0) (tableOf rows refs (length ms)) (p ++ e ∷ [])) e (plainly (set ms e (d + 1))) 0 (refsAt rows refs e),
         rw (length-set, refsAt-clipped rows refs e (h .row) (h .part) (h .is-row) (h .cut)) at w,
-        s .2)
+        s .2,
+      )
 
   -- they have a rank, and the own rule is judged
   module _ (rank : Rank) (ranked : a ≡ Ranked rank) where
@@ -79,19 +80,22 @@ module _ (rows refs ms : List ℕ) (d e : ℕ) (l : List ℕ) (a : Walked) (h : 
       entry-finished = (
         kept-stored a2 ms l l2 e d (rank .0) (kept-finished ms e d (h .lt) (h .new) (h .ready) l (rank .0) same-length walked) (done .stored),
         λ f p le size path.
-        let b = below f p le size path in
-        let q = shows-rank (p ++ e ∷ []) l a rank (b .0) ranked (b .1) in
-        rw (b .2, q) (done .shows p),
+            let b = below f p le size path in
+            let q = shows-rank (p ++ e ∷ []) l a rank (b .0) ranked (b .1) in
+            rw (b .2, q) (done .shows p),
       )
 
   -- they meet a ring
   module _ (k from n : ℕ) (ring : a ≡ Ring k from n) where
     pub entry-ring : (l2 : List ℕ) → l2 ≡ cond (leb from d) (set l (d - from) e) l → Unit {0} × EntryShows rows refs ms d e l2 (Ring k from n)
-    entry-ring l2 is = (tt, λ f p le size path.
-      let b = below f p le size path in
-      let r = shows-ring (p ++ e ∷ []) l a k from n (b .0) ring (b .1) in
-      let w : Shows p l2 (Ring k from n) (b .0) = rw is (go (leb from d) refl p size (b .0) r) in
-      rw (b .2) (shows-stop p l2 (Ring k from n) (b .0) (finish (tableOf rows refs (length ms)) e) (inl refl) w))
+    entry-ring l2 is = (
+      tt,
+      λ f p le size path.
+          let b = below f p le size path in
+          let r = shows-ring (p ++ e ∷ []) l a k from n (b .0) ring (b .1) in
+          let w : Shows p l2 (Ring k from n) (b .0) = rw is (go (leb from d) refl p size (b .0) r) in
+          rw (b .2) (shows-stop p l2 (Ring k from n) (b .0) (finish (tableOf rows refs (length ms)) e) (inl refl) w),
+    )
       where
         go : (y : Bool) → leb from d ≡ y → (p : List ℕ) → length p ≡ d → (o : Out) → RingShown (p ++ e ∷ []) l k from n (o .answer)
             → RingShown p (cond y (set l (d - from) e) l) k from n (o .answer)
@@ -103,8 +107,8 @@ module _ (rows refs ms : List ℕ) (d e : ℕ) (l : List ℕ) (a : Walked) (h : 
   entry-refused s = (
     kept-refused a (set ms e (d + 1)) ms l l (d + 1) d (d + 1) (d + 1) s (h .left .0),
     λ f p le size path.
-    let b = below f p le size path in
-    rw (b .2) (shows-stop p l a (b .0) (finish (tableOf rows refs (length ms)) e) (inr s) (shows-refused (p ++ e ∷ []) p l a (b .0) s (b .1))),
+        let b = below f p le size path in
+        rw (b .2) (shows-stop p l a (b .0) (finish (tableOf rows refs (length ms)) e) (inr s) (shows-refused (p ++ e ∷ []) p l a (b .0) s (b .1))),
   )
 
 -- the first of the references left is in range
@@ -132,7 +136,7 @@ module _ (rows refs ms : List ℕ) (d e at left best : ℕ) (c : Bool) (h : InRa
   stretch-uncounted q l a w = (
     w .0,
     λ f p le size path.
-    rw (stretch-past (tableOf rows refs (length ms)) (entry f (tableOf rows refs (length ms)) p) p ms e best refs at left (h .some) (h .inside) (h .lt) (asked false q)) (w .1 f p le size path),
+        rw (stretch-past (tableOf rows refs (length ms)) (entry f (tableOf rows refs (length ms)) p) p ms e best refs at left (h .some) (h .inside) (h .lt) (asked false q)) (w .1 f p le size path),
   )
 
   -- and counts, and the call of its entry has left l and answered a
@@ -141,7 +145,7 @@ module _ (rows refs ms : List ℕ) (d e at left best : ℕ) (c : Bool) (h : InRa
     stretch-stopped s = (
       kept-stop a ms l d (d + 1) d s (called .0),
       λ f p le size path.
-      stretch-stops (tableOf rows refs (length ms)) (entry f (tableOf rows refs (length ms)) p) p ms e best refs at left (h .some) (h .inside) (h .lt) (asked true q) l a s (called .1 f p le size path),
+          stretch-stops (tableOf rows refs (length ms)) (entry f (tableOf rows refs (length ms)) p) p ms e best refs at left (h .some) (h .inside) (h .lt) (asked true q) l a s (called .1 f p le size path),
     )
 
     module _ (rank : Rank) (ranked : a ≡ Ranked rank) where
@@ -157,7 +161,7 @@ module _ (rows refs ms : List ℕ) (d e at left best : ℕ) (c : Bool) (h : InRa
       stretch-went next is len l2 a2 w = (
         kept-more a2 ms l l2 d (rank .0 + (d + 1)) d went (w .0),
         λ f p le size path.
-        let v = w .1 f p (le-trans (went .fewer) le) size (Path-kept p ms l d (rank .0 + (d + 1)) went path) in
-        rw (stretch-goes (tableOf rows refs (length ms)) (entry f (tableOf rows refs (length ms)) p) p ms e best refs at left (h .some) (h .inside) (h .lt) (asked true q) l a rank next ranked is (called .1 f p le size path))
-        (rw len at v),
+            let v = w .1 f p (le-trans (went .fewer) le) size (Path-kept p ms l d (rank .0 + (d + 1)) went path) in
+            rw (stretch-goes (tableOf rows refs (length ms)) (entry f (tableOf rows refs (length ms)) p) p ms e best refs at left (h .some) (h .inside) (h .lt) (asked true q) l a rank next ranked is (called .1 f p le size path))
+            (rw len at v),
       )

@@ -134,3 +134,7 @@ module _ (p ms : List ℕ) (e : ℕ) (h : Path p ms) (lt : e < length ms) (new :
           let w = h .placed x (rw v at some) (rw v at few) in
           let in-p : getD ms x 0 - 1 < length p = omega (arith, w .0, rw v at some) in
           (omega (arith, longer, w .0), rw (v, List·getD-append p (e ∷ []) 0 (getD ms x 0 - 1) in-p) (w .1))
+
+pub plainly-zeros : (n : ℕ) → plainly (replicate n 0) ≡ replicate n 0
+plainly-zeros zero = refl
+plainly-zeros (suc n) = rw (plain-new, plainly-zeros n)

@@ -28,9 +28,9 @@ use Rattle.table.proofs.buffer.clear_words.Reads as clear-words-reads
 use Rattle.table.proofs.row.row_at.Reads as row-at-reads
 use Rattle.walk.proofs.judge.clipped.Reads as clipped-reads
 use Rattle.walk.proofs.walk.above.Reads as above-reads
-use Rattle.walk.proofs.walk.enter_ring.Reads as enter-ring-reads
+use Rattle.walk.proofs.marks.enter_ring.Reads as enter-ring-reads
 use Rattle.walk.proofs.walk.finish.Reads as finish-reads
-use Rattle.walk.proofs.walk.less.Reads as less-reads
+use Rattle.walk.proofs.marks.less.Reads as less-reads
 use Rattle.walk.proofs.walk.+resolve_entry+resolve_stretch.{statement}
 use Rattle.walk.proofs.walk.+resolve_entry+resolve_stretch.Tie.{close}
 
@@ -75,18 +75,21 @@ entry-calls t = (
 e-returns : (t : ℕ) → entry-lts.Need-returns (entry-calls t) (entry-at t) resolve-entry.Post
 e-returns t c =
     let s = c .before .before .before .before .before in
-    let a = s .args in
-    (kept-ranked (a .marks .now) (a .e) (a .depth) (s .pre .1 .1) (c .if1 .taken),
-      λ f p le size path. entry-ranked (tableOf (a .rows .now) (a .refs .now) (length (a .marks .now))) p (a .marks .now) (a .e) _ refl (c .if1 .taken) f)
+    let a = s .args in (
+      kept-ranked (a .marks .now) (a .e) (a .depth) (s .pre .1 .1) (c .if1 .taken),
+      λ f p le size path. entry-ranked (tableOf (a .rows .now) (a .refs .now) (length (a .marks .now))) p (a .marks .now) (a .e) _ refl (c .if1 .taken) f,
+    )
 
 -- an entry of the path
 e-returns-2 : (t : ℕ) → entry-lts.Need-returns-2 (entry-calls t) (entry-at t) resolve-entry.Post
 e-returns-2 t c =
     let s = c .before .before .before .before .before .before .before .before .before .before .before in
-    let a = s .args in
-    (tt, λ f p le size path.
-    entry-again (tableOf (a .rows .now) (a .refs .now) (length (a .marks .now))) p (a .marks .now) (a .e) (a .depth) (c .before .before .clear-words .last .0) (c .before .before .before .before .less .result)
-    (c .before .before .before .before .before .if2 .taken) (few-of (c .before .before .before .before .before .before .if1 .left)) size (depth-inside (a .depth) (unstarted (a .marks .now)) (length (a .marks .now)) (s .pre .1 .1 .room)) path (c .before .before .clear-words .ensures) (c .before .before .before .before .less .ensures) f)
+    let a = s .args in (
+      tt,
+      λ f p le size path.
+          entry-again (tableOf (a .rows .now) (a .refs .now) (length (a .marks .now))) p (a .marks .now) (a .e) (a .depth) (c .before .before .clear-words .last .0) (c .before .before .before .before .less .result)
+          (c .before .before .before .before .before .if2 .taken) (few-of (c .before .before .before .before .before .before .if1 .left)) size (depth-inside (a .depth) (unstarted (a .marks .now)) (length (a .marks .now)) (s .pre .1 .1 .room)) path (c .before .before .clear-words .ensures) (c .before .before .before .before .less .ensures) f,
+    )
 
 e-add-marks : (t : ℕ) → entry-lts.Need-add-marks (entry-calls t) (entry-at t) resolve-entry.Post
 e-add-marks t c = let s = c .before .before .before .before .before .before in depth-fits (s .args .depth) (depth-few (s .args .marks .now) (s .args .e) (s .args .depth) (s .pre .1 .0) (c .if2 .left) (s .pre .1 .1))
@@ -128,9 +131,10 @@ e-finish-requires t c κs =
     let rank = c .before .before .rank .given .0 .0 in
     let q : w .resolve-stretch .result ≡ Ranked rank = search needs in
     let l = w .resolve-stretch .last .1 .1 .0 in
-    let h = entry-called t w in
-    (rw (same-length (a .rows .now) (a .refs .now) (a .marks .now) (a .depth) (a .e) l (w .resolve-stretch .result) h) (h .lt),
-    entry-rank-low (a .rows .now) (a .refs .now) (a .marks .now) (a .depth) (a .e) l (w .resolve-stretch .result) h rank q)
+    let h = entry-called t w in (
+      rw (same-length (a .rows .now) (a .refs .now) (a .marks .now) (a .depth) (a .e) l (w .resolve-stretch .result) h) (h .lt),
+      entry-rank-low (a .rows .now) (a .refs .now) (a .marks .now) (a .depth) (a .e) l (w .resolve-stretch .result) h rank q,
+    )
 
 e-same-length-2 : (t : ℕ) → entry-lts.Need-same-length-2 (entry-calls t) (entry-at t) resolve-entry.Post
 e-same-length-2 t c = c .before .before .finish .kept .1 .1 .0 ∙ (simp length-set at (c .before .before .before .before .before .before .before .before .before .resolve-stretch .kept .1 .1 .0))
@@ -184,18 +188,22 @@ stretch-calls t = (
 s-returns : (t : ℕ) → stretch-lts.Need-returns (stretch-calls t) (stretch-at t) resolve-stretch.Post
 s-returns t c =
     let s = c .before .before .before .before in
-    let a = s .args in
-    (kept-none (a .marks .now) (a .depth) (a .best .0 + a .depth) (s .pre .1 .1), λ f p le size path.
-    stretch-none (tableOf (a .rows .now) (a .refs .now) (length (a .marks .now))) (entry f (tableOf (a .rows .now) (a .refs .now) (length (a .marks .now))) p) p (a .marks .now) (a .e) (a .best .0) (a .refs .now) (a .at) (a .left)
-    (a .best) refl (c .if1 .taken))
+    let a = s .args in (
+      kept-none (a .marks .now) (a .depth) (a .best .0 + a .depth) (s .pre .1 .1),
+      λ f p le size path.
+          stretch-none (tableOf (a .rows .now) (a .refs .now) (length (a .marks .now))) (entry f (tableOf (a .rows .now) (a .refs .now) (length (a .marks .now))) p) p (a .marks .now) (a .e) (a .best .0) (a .refs .now) (a .at) (a .left)
+          (a .best) refl (c .if1 .taken),
+    )
 
 s-returns-2 : (t : ℕ) → stretch-lts.Need-returns-2 (stretch-calls t) (stretch-at t) resolve-stretch.Post
 s-returns-2 t c =
     let s = c .before .before .before .before .before .before in
-    let a = s .args in
-    (tt, λ f p le size path.
-    stretch-range (tableOf (a .rows .now) (a .refs .now) (length (a .marks .now))) (entry f (tableOf (a .rows .now) (a .refs .now) (length (a .marks .now))) p) p (a .marks .now) (a .e) (a .best .0) (a .refs .now) (a .at) (a .left)
-    (c .before .before .if1 .left) (s .pre .1 .0) (c .if2 .taken))
+    let a = s .args in (
+      tt,
+      λ f p le size path.
+          stretch-range (tableOf (a .rows .now) (a .refs .now) (length (a .marks .now))) (entry f (tableOf (a .rows .now) (a .refs .now) (length (a .marks .now))) p) p (a .marks .now) (a .e) (a .best .0) (a .refs .now) (a .at) (a .left)
+          (c .before .before .if1 .left) (s .pre .1 .0) (c .if2 .taken),
+    )
 
 -- the reference at hand is in range
 in-range : (t : ℕ) (w : stretch-lts.After-counts (stretch-calls t) (stretch-at t) resolve-stretch.Post)
@@ -251,9 +259,13 @@ s-stretch-requires-2 t c κs =
     let call = c .before .before .before .before .before .before .before .resolve-entry in
     let rank = c .before .before .before .rank .given .0 .0 in
     let q : call .result ≡ Ranked rank = search needs in
-    let k = went (a .rows .now) (a .refs .now) (a .marks .now) (a .depth) (a .e) (a .at) (a .left) (a .best .0) (w .counts .result) (in-range t w) (not-false _ (c .before .before .before .before .before .before .before .before .before .if3 .left)) (call .last .1 .1 .0) (call .result) (call .ensures) rank q in
-    (stretch-falls (unstarted (a .marks .now)) (unstarted (call .last .1 .1 .0)) (a .left) t (c .before .before .before .before .before .before .before .before .before .before .before .before .before .before .before .if1 .left) (k .fewer) (s .pre .0), (next-inside (a .at) (a .left) (length (a .refs .now)) (c .before .before .before .before .before .before .before .before .before .before .before .before .before .before .before .if1 .left) (s .pre .1 .0),
-    ready-next (a .marks .now) (call .last .1 .1 .0) (a .depth) (a .best .0) (rank .0) (c .before .above .result .0) (s .pre .1 .1) (call .kept .1 .1 .0) (c .before .above .ensures) k))
+    let k = went (a .rows .now) (a .refs .now) (a .marks .now) (a .depth) (a .e) (a .at) (a .left) (a .best .0) (w .counts .result) (in-range t w) (not-false _ (c .before .before .before .before .before .before .before .before .before .if3 .left)) (call .last .1 .1 .0) (call .result) (call .ensures) rank q in (
+      stretch-falls (unstarted (a .marks .now)) (unstarted (call .last .1 .1 .0)) (a .left) t (c .before .before .before .before .before .before .before .before .before .before .before .before .before .before .before .if1 .left) (k .fewer) (s .pre .0),
+      (
+        next-inside (a .at) (a .left) (length (a .refs .now)) (c .before .before .before .before .before .before .before .before .before .before .before .before .before .before .before .if1 .left) (s .pre .1 .0),
+        ready-next (a .marks .now) (call .last .1 .1 .0) (a .depth) (a .best .0) (rank .0) (c .before .above .result .0) (s .pre .1 .1) (call .kept .1 .1 .0) (c .before .above .ensures) k,
+      ),
+    )
 
 s-returns-4 : (t : ℕ) → stretch-lts.Need-returns-4 (stretch-calls t) (stretch-at t) resolve-stretch.Post
 s-returns-4 t c =

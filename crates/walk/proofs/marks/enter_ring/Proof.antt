@@ -1,12 +1,12 @@
--- `walk::walk::enter_ring` meets its contract: `set` past the end changes nothing.
+-- `walk::marks::enter_ring` meets its contract: `set` past the end changes nothing.
 -- Assumes nothing.
 use borrow.Author.Needs.{needs}
 use borrow.Author.Tests.{le-leb, lt-leb}
 use mathlib.Core.Path.{sym}
 use Prim.Native.Nat.{_-_}
 use lib.Seq.{set-out}
-use Rattle.walk.proofs.walk.enter_ring.Statement.{statement}
-use Rattle.walk.proofs.walk.enter_ring.Tie as tie
+use Rattle.walk.proofs.marks.enter_ring.Statement.{statement}
+use Rattle.walk.proofs.marks.enter_ring.Tie as tie
 
 pub enter-ring-spec : {M : Type 1} → statement M
 enter-ring-spec =

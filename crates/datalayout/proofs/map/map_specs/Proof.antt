@@ -1,0 +1,145 @@
+-- `datalayout::map::map_specs` meets its contract. The invariant: from the layout that stands, what is left of the specs gives what all of
+-- them give.
+-- Assumes nothing.
+use mathlib.Core.Path.{_≡_, refl, sym, ap, _∙_}
+use mathlib.Core.List.{List}
+use Prim.Native.Nat.{ℕ, _-_, _≤_}
+use native.Mathlib.Omega.{arith}
+use lib.ListN.{length, drop}
+use borrow.Author.Needs.{needs}
+use Rattle.layout.specs.declared.record.DataLayout.{DataLayout}
+use Rattle.layout.specs.Defaults.{defaultLayout}
+use Rattle.fields.specs.Parts.{dash, partsOf}
+use Rattle.fields.proofs.Laws.Parts.{endOf-bound}
+use Rattle.spec.specs.Edition.{specsOf}
+use Rattle.datalayout.specs.declared.apply.Outcome.the-variants.{Done, Refused}
+use Rattle.datalayout.specs.Apply.{applied}
+use Rattle.datalayout.specs.Strings.{specsFrom}
+use Rattle.datalayout.proofs.Laws.Strings.{specsFrom-refused, specsFrom-last, specsFrom-more}
+use Rattle.datalayout.proofs.map.map_specs.Statement.{statement}
+use Rattle.datalayout.proofs.map.map_specs.Tie as tie
+
+pub record Going (value : List ℕ) (layout : DataLayout) (at : ℕ) : Type 0 where
+  pub in-value : at ≤ length value
+  pub same : specsFrom defaultLayout 0 (specsOf value) ≡ specsFrom layout at (partsOf dash (drop at value))
+
+abbrev Inv-loop : tie.InvT-loop
+Inv-loop value layout₀ at₀ layout at = Going value layout at
+
+abbrev μ-loop : tie.MeasureT-loop
+μ-loop value layout₀ at₀ layout at = length value - at
+
+default-layout-requires : tie.Need-default-layout-requires Inv-loop μ-loop
+default-layout-requires c κs = search needs
+
+loop-holds : tie.Need-loop-holds Inv-loop μ-loop
+loop-holds c = record { in-value = omega arith; same = rw (c .default-layout .ensures) }
+
+part-end-requires : tie.Need-part-end-requires Inv-loop μ-loop
+part-end-requires c κs = search needs
+
+sub-read-spec : tie.Need-sub-read-spec Inv-loop μ-loop
+sub-read-spec c = search needs
+
+part-read-spec-start : tie.Need-part-read-spec-start Inv-loop μ-loop
+part-read-spec-start c = search needs
+
+part-read-spec-end : tie.Need-part-read-spec-end Inv-loop μ-loop
+part-read-spec-end c =
+    let at-part = c in
+    let at-loop = at-part .before in
+    let s = at-loop .before .before .before .args .value .now in
+    let here = at-loop .loop in
+    let bound = endOf-bound dash s (here .at) (at-part .part-end .result) (here .inv .in-value) (at-part .part-end .ensures) in
+    bound .1
+
+read-spec-requires : tie.Need-read-spec-requires Inv-loop μ-loop
+read-spec-requires c κs = search needs
+
+apply-requires : tie.Need-apply-requires Inv-loop μ-loop
+apply-requires c κs = search needs
+
+enum-known-outcome : tie.Need-enum-known-outcome Inv-loop μ-loop
+enum-known-outcome c = search needs
+
+default-layout-requires-2 : tie.Need-default-layout-requires-2 Inv-loop μ-loop
+default-layout-requires-2 c κs = search needs
+
+returns : tie.Need-returns Inv-loop μ-loop
+returns c =
+    let at-part = c .before .before .before .before .before .before .before in
+    let at-loop = at-part .before in
+    let s = at-loop .before .before .before .args .value .now in
+    let here = at-loop .loop in
+    let call = c .before .before .before .before .apply in
+    let fault = c .before .before .outcome .given .0 .0 in
+    let refused : call .result .outcome ≡ Refused fault = search needs in
+    let made = call .ensures ∙ ap (applied (here .layout)) (c .before .before .before .before .before .read-spec .ensures) in
+    rw (c .default-layout2 .ensures) (specsFrom-refused (here .layout) s (here .at) (at-part .part-end .result) (here .inv .in-value) (at-part .part-end .ensures) (call .result) made fault refused ∙ sym (here .inv .same))
+
+enum-told : tie.Need-enum-told Inv-loop μ-loop
+enum-told c = search needs
+
+returns-2 : tie.Need-returns-2 Inv-loop μ-loop
+returns-2 c =
+    let at-part = c .before .before .before .before .before .before .before in
+    let at-loop = at-part .before in
+    let s = at-loop .before .before .before .args .value .now in
+    let here = at-loop .loop in
+    let call = c .before .before .before .before .apply in
+    let done : call .result .outcome ≡ Done = search needs in
+    let made = call .ensures ∙ ap (applied (here .layout)) (c .before .before .before .before .before .read-spec .ensures) in
+    specsFrom-last (here .layout) s (here .at) (at-part .part-end .result) (here .inv .in-value) (at-part .part-end .ensures) (call .result) made done (c .if1 .taken) ∙ sym (here .inv .same)
+
+add-at : tie.Need-add-at Inv-loop μ-loop
+add-at c =
+    let at-part = c .before .before .before .before .before .before .before in
+    let at-loop = at-part .before in
+    let s = at-loop .before .before .before .args .value .now in
+    let here = at-loop .loop in
+    let bound = endOf-bound dash s (here .at) (at-part .part-end .result) (here .inv .in-value) (at-part .part-end .ensures) in
+    omega arith
+
+loop-less : tie.Need-loop-less Inv-loop μ-loop
+loop-less c =
+    let at-part = c .before .before .before .before .before .before .before in
+    let at-loop = at-part .before in
+    let s = at-loop .before .before .before .args .value .now in
+    let here = at-loop .loop in
+    let bound = endOf-bound dash s (here .at) (at-part .part-end .result) (here .inv .in-value) (at-part .part-end .ensures) in
+    omega arith
+
+loop-again : tie.Need-loop-again Inv-loop μ-loop
+loop-again c =
+    let at-part = c .before .before .before .before .before .before .before in
+    let at-loop = at-part .before in
+    let s = at-loop .before .before .before .args .value .now in
+    let here = at-loop .loop in
+    let bound = endOf-bound dash s (here .at) (at-part .part-end .result) (here .inv .in-value) (at-part .part-end .ensures) in
+    let call = c .before .before .before .before .apply in
+    let done : call .result .outcome ≡ Done = search needs in
+    let made = call .ensures ∙ ap (applied (here .layout)) (c .before .before .before .before .before .read-spec .ensures) in
+    record { in-value = omega arith; same = here .inv .same ∙ specsFrom-more (here .layout) s (here .at) (at-part .part-end .result) (here .inv .in-value) (at-part .part-end .ensures) (call .result) made done (c .if1 .left) }
+
+pub map-specs-spec : {M : Type 1} → statement M
+map-specs-spec =
+    tie.close
+    (tie.spec
+    Inv-loop
+    μ-loop
+    default-layout-requires
+    loop-holds
+    part-end-requires
+    sub-read-spec
+    part-read-spec-start
+    part-read-spec-end
+    read-spec-requires
+    apply-requires
+    enum-known-outcome
+    default-layout-requires-2
+    returns
+    enum-told
+    returns-2
+    add-at
+    loop-less
+    loop-again)

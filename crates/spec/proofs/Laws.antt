@@ -1,0 +1,5 @@
+pub mod Letters
+pub mod Typed
+pub mod Pointer
+pub mod Lists
+pub mod Specs
