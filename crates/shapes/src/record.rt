@@ -43,10 +43,11 @@ fn flag_of(field: u64) -> u64
     if 0 < field { 1 } else { 0 }
 }
 
-fn behind_first(count: usize) -> usize
-    ensures { λ r. ⌜ r ≡ count - 1 ⌝ }
+// 0 stays 0.
+pub fn less_one(n: usize) -> usize
+    ensures { λ r. ⌜ r ≡ n - 1 ⌝ }
 {
-    if count == 0 { 0 } else { count - 1 }
+    if n == 0 { 0 } else { n - 1 }
 }
 
 fn adds(kind: u64, number: u64, flag: u64, from: usize, count: usize) -> Shape
@@ -118,19 +119,10 @@ fn whole_shape(c: TypeCode, code: u64, s: Seen, pending: bool) -> Shape
         TypeCode::FunctionOld => Shape::Refused(Fault::OldFunction),
         TypeCode::Array => adds(kind::ARRAY, s.first, 0, 1, 1),
         TypeCode::Vector => adds(vector_kind(s.third), s.first, 0, 1, 1),
-        TypeCode::StructAnon => adds(kind::STRUCT, 0, flag_of(s.first), 1, behind_first(s.count)),
+        TypeCode::StructAnon => adds(kind::STRUCT, 0, flag_of(s.first), 1, less_one(s.count)),
         TypeCode::StructName => Shape::Name,
-        TypeCode::StructNamed => Shape::Named(
-            named_struct(flag_of(s.first), behind_first(s.count)),
-            1,
-        ),
-        TypeCode::Function => adds(
-            kind::FUNCTION,
-            0,
-            flag_of(s.first),
-            1,
-            behind_first(s.count),
-        ),
+        TypeCode::StructNamed => Shape::Named(named_struct(flag_of(s.first), less_one(s.count)), 1),
+        TypeCode::Function => adds(kind::FUNCTION, 0, flag_of(s.first), 1, less_one(s.count)),
         TypeCode::OpaquePointer => spaced(kind::OPAQUE_POINTER, s.first, 0),
         TypeCode::Unknown => Shape::Refused(Fault::UnknownCode(code)),
     }

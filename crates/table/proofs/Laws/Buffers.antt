@@ -1,6 +1,6 @@
 -- Laws of specs/Buffers.antt: a run laid over a buffer step by step (words, bytes and zeros alike), and behind another run.
 --     Laid run rest i l     l is rest with the first i of run laid over its front
---     over-rest             a run laid behind another; over-again: in place of one as long; padded-rest: zeros behind it
+--     over-rest             a run laid behind another; over-again: in place of a shorter one; padded-rest: zeros behind it
 -- Assumes nothing.
 use mathlib.Core.Path.{_≡_, refl, sym, ap, _∙_}
 use mathlib.Core.List.{List, [], _∷_, _++_, append-nil, append-assoc}
@@ -8,7 +8,7 @@ use Prim.Native.Nat.{ℕ, zero, suc, _+_, _-_, _%_, _≤_, _<_}
 use native.Mathlib.Numerals.{add-one}
 use native.Mathlib.Omega.{arith}
 use lib.ListN.{length, getD, take, drop, set, length-append, length-drop, length-take, length-set, length-replicate, drop-of-length-le}
-use lib.Seq.{drop-cons, take-suc, set-at, append-snoc, length-take-le, drop-drop, drop-length, take-all, take-append-add, drop-append-seam, take-append-seam, take-append-le}
+use lib.Seq.{drop-cons, take-suc, set-at, append-snoc, length-take-le, drop-drop, drop-length, take-all, take-append-add, drop-append-add, drop-append-seam, take-append-seam, take-append-le}
 use Rattle.laws.proofs.Rests.{rest-part, rest-none}
 use Rattle.table.specs.Buffers.{over, zeros, padded, lowBytes}
 
@@ -102,13 +102,26 @@ module _ (xs b l last : List ℕ) (a : ℕ) (is-a : a ≡ length xs) (fits : len
       let m : length l - a ≡ length b - length xs = omega arith in
       rw (is, rest-none l a, rest-part l a, append-nil, length-drop, m, is-l, ← (over-add xs ys b fits), is-a, take-append-seam)
 
-  pub over-again : (old ys : List ℕ) → l ≡ over (xs ++ old) b → length (xs ++ old) ≤ length b → length ys ≡ length old
+  pub over-again : (old ys : List ℕ) → l ≡ over (xs ++ old) b → length old ≤ length ys → length (xs ++ ys) ≤ length b
       → last ≡ over ys (take (length l - a) (drop a l)) → take a l ++ (last ++ drop (length l - a) (drop a l)) ≡ over (xs ++ ys) b
-  unfolding over
-  over-again old ys is-l h n is =
+  over-again old ys is-l le h is =
       let rest = drop (length (xs ++ old)) b in
-      let flat : over (xs ++ old) b ≡ xs ++ (old ++ rest) = over-fits (xs ++ old) b h ∙ append-assoc xs old rest in
-      let same : length (xs ++ old) ≡ length (xs ++ ys) = simp length-append (omega arith) in
-      let front : over ys (old ++ rest) ≡ ys ++ rest = over-fits ys (old ++ rest) (simp length-append (omega arith)) ∙ rw (n, drop-append-seam old rest) in
+      let old-fits : length (xs ++ old) ≤ length b = simp length-append (omega (arith, length-append xs ys)) in
+      let flat : over (xs ++ old) b ≡ xs ++ (old ++ rest) = over-fits (xs ++ old) b old-fits ∙ append-assoc xs old rest in
+      let more = length ys - length old in
+      let n : length ys ≡ length old + more = omega arith in
+      let m : length (xs ++ old) + more ≡ length (xs ++ ys) = simp length-append (omega arith) in
+      let behind : drop (length ys) (old ++ rest) ≡ drop (length (xs ++ ys)) b = rw (n, drop-append-add old rest more, drop-drop more (length (xs ++ old)) b, m) in
+      let fits-old : length ys ≤ length (old ++ rest) = simp (length-append, length-drop) (omega (arith, length-append xs ys)) in
+      let front : over ys (old ++ rest) ≡ ys ++ drop (length (xs ++ ys)) b = over-fits ys (old ++ rest) fits-old ∙ rw behind in
       rw (is, rest-none l a, rest-part l a, append-nil, is-l ∙ flat, is-a, take-append-seam, drop-append-seam)
-      (ap (λ (k : List ℕ). xs ++ k) front ∙ sym (over-fits (xs ++ ys) b (omega arith) ∙ append-assoc xs ys (drop (length (xs ++ ys)) b) ∙ rw (← same)))
+      (ap (λ (k : List ℕ). xs ++ k) front ∙ sym (over-fits (xs ++ ys) b h ∙ append-assoc xs ys (drop (length (xs ++ ys)) b)))
+
+-- bytes are their own low bytes
+pub lowBytes-of-bytes : (ws : List ℕ) → ((k : ℕ) → getD ws k 0 < 256) → lowBytes ws ≡ ws
+unfolding lowBytes
+lowBytes-of-bytes [] small = refl
+lowBytes-of-bytes (w ∷ ws) small =
+    let first = small 0 in
+    let e : w % 256 ≡ w = omega arith in
+    rw (e, lowBytes-of-bytes ws (λ k. small (suc k)))

@@ -58,8 +58,8 @@ enum-told-8 c = search needs
 flag-of-requires : tie.Need-flag-of-requires
 flag-of-requires c κs = search needs
 
-behind-first-requires : tie.Need-behind-first-requires
-behind-first-requires c κs = search needs
+less-one-requires : tie.Need-less-one-requires
+less-one-requires c κs = search needs
 
 adds-requires-5 : tie.Need-adds-requires-5
 adds-requires-5 c κs = search needs
@@ -73,8 +73,8 @@ enum-told-10 c = search needs
 flag-of-requires-2 : tie.Need-flag-of-requires-2
 flag-of-requires-2 c κs = search needs
 
-behind-first-requires-2 : tie.Need-behind-first-requires-2
-behind-first-requires-2 c κs = search needs
+less-one-requires-2 : tie.Need-less-one-requires-2
+less-one-requires-2 c κs = search needs
 
 named-struct-requires : tie.Need-named-struct-requires
 named-struct-requires c κs = search needs
@@ -85,8 +85,8 @@ enum-told-11 c = search needs
 flag-of-requires-3 : tie.Need-flag-of-requires-3
 flag-of-requires-3 c κs = search needs
 
-behind-first-requires-3 : tie.Need-behind-first-requires-3
-behind-first-requires-3 c κs = search needs
+less-one-requires-3 : tie.Need-less-one-requires-3
+less-one-requires-3 c κs = search needs
 
 adds-requires-6 : tie.Need-adds-requires-6
 adds-requires-6 c κs = search needs
@@ -161,7 +161,7 @@ unfolding wholeShape
 returns-9 c =
     let a = c .before .before .before .before .before .args in
     let is : a .c ≡ StructAnon = search needs in
-    c .adds5 .ensures ∙ rw (c .before .before .flag-of .ensures, c .before .behind-first .ensures, is)
+    c .adds5 .ensures ∙ rw (c .before .before .flag-of .ensures, c .before .less-one .ensures, is)
 
 returns-10 : tie.Need-returns-10
 unfolding wholeShape
@@ -175,14 +175,14 @@ unfolding wholeShape
 returns-11 c =
     let a = c .before .before .before .before .before .args in
     let is : a .c ≡ StructNamed = search needs in
-    rw (c .named-struct .ensures, c .before .before .flag-of2 .ensures, c .before .behind-first2 .ensures, is)
+    rw (c .named-struct .ensures, c .before .before .flag-of2 .ensures, c .before .less-one2 .ensures, is)
 
 returns-12 : tie.Need-returns-12
 unfolding wholeShape
 returns-12 c =
     let a = c .before .before .before .before .before .args in
     let is : a .c ≡ Function = search needs in
-    c .adds6 .ensures ∙ rw (c .before .before .flag-of3 .ensures, c .before .behind-first3 .ensures, is)
+    c .adds6 .ensures ∙ rw (c .before .before .flag-of3 .ensures, c .before .less-one3 .ensures, is)
 
 returns-13 : tie.Need-returns-13
 unfolding wholeShape
@@ -219,16 +219,16 @@ whole-shape-spec =
     adds-requires-4
     enum-told-8
     flag-of-requires
-    behind-first-requires
+    less-one-requires
     adds-requires-5
     enum-told-9
     enum-told-10
     flag-of-requires-2
-    behind-first-requires-2
+    less-one-requires-2
     named-struct-requires
     enum-told-11
     flag-of-requires-3
-    behind-first-requires-3
+    less-one-requires-3
     adds-requires-6
     enum-told-12
     spaced-requires-2
