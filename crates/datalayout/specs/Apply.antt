@@ -11,13 +11,15 @@ use Rattle.layout.specs.declared.record.MaybeAlign.the-variants.{Of}
 use Rattle.layout.specs.declared.types.TypeAlignSpec.{TypeAlignSpec}
 use Rattle.layout.specs.declared.types.UpdatedTypes.{UpdatedTypes}
 use Rattle.layout.specs.Pointers.{updatedPointers}
-use Rattle.layout.specs.Record.{withEndianness, withStack, withSpace, withTypes, withPointers, withFunctionPointer, withMangling, withNumbers}
+use Rattle.layout.specs.Record.{withEndianness, withStack, withSpace, withTypes}
+use Rattle.layout.specs.Record.{withPointers, withFunctionPointer, withMangling, withNumbers}
 use Rattle.layout.specs.Types.{updatedTypes}
 use Rattle.fields.specs.declared.numbers.Fault.{Fault}
 use Rattle.fields.specs.declared.numbers.Fault.the-variants.{ListFull}
 use Rattle.spec.specs.declared.spec.Read.{Read}
 use Rattle.spec.specs.declared.spec.Spec.{Spec}
-use Rattle.spec.specs.declared.spec.Spec.the-variants.{Endianness, Stack, Space, Typed, Pointer, FunctionPointer, Mangled, Numbered, Refused}
+use Rattle.spec.specs.declared.spec.Spec.the-variants.{Endianness, Stack, Space, Typed}
+use Rattle.spec.specs.declared.spec.Spec.the-variants.{Pointer, FunctionPointer, Mangled, Numbered, Refused}
 use Rattle.datalayout.specs.declared.apply.Applied.{Applied}
 use Rattle.datalayout.specs.declared.apply.Outcome.the-variants.{Done, Refused as Fails}
 

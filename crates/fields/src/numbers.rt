@@ -1,6 +1,7 @@
 // The numbers of a spec: a part that is handed in, read and tested.
 ghost use mathlib.Core.Path.{_≡_};
-ghost use Rattle.fields.specs.Fields.{sizeIn, spaceIn, pointerSpaceIn, typeWidthIn, noWidthIn, widthIn, nativeIn, nonIntegralIn, alignAs, alignIn};
+ghost use Rattle.fields.specs.Fields.{sizeIn, spaceIn, pointerSpaceIn, typeWidthIn, noWidthIn};
+ghost use Rattle.fields.specs.Fields.{widthIn, nativeIn, nonIntegralIn, alignAs, alignIn};
 use layout::types::AlignedType;
 use units::align::Align;
 use units::align::Alignment;

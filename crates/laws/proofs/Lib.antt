@@ -4,3 +4,5 @@ pub mod Rests
 pub mod Stretches
 pub mod Runs
 pub mod Lists
+pub mod Conds
+pub mod Told

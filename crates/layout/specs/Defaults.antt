@@ -4,7 +4,7 @@
 --     defaultLayout     the layout before any spec, and with every refusal
 -- Assumes nothing.
 use mathlib.Core.List.{List, [], _∷_, _++_}
-use Prim.Native.Nat.{ℕ}
+use Prim.Native.Nat.{ℕ, _-_}
 use lib.ListN.{replicate}
 use Rattle.units.specs.declared.align.Align.{Align}
 use Rattle.layout.specs.declared.types.AlignedType.{AlignedType}
@@ -19,6 +19,8 @@ use Rattle.layout.specs.declared.record.MaybeAlign.the-variants.{Unspeci
 use Rattle.layout.specs.declared.record.FunctionPointerAlign.the-variants.{Unspecified as AnyFunction}
 use Rattle.layout.specs.declared.record.Mangling.the-variants.{Unspecified as AnyMangling}
 use Rattle.layout.specs.Numbers.{noNumbers}
+use Rattle.layout.specs.Pointers.{maxPointerRows}
+use Rattle.layout.specs.Types.{maxTypeRows}
 
 -- `ALIGN8` to `ALIGN128`: an alignment of 8 times 2 to the shift bits
 abbrev pub align8 : Align
@@ -42,7 +44,14 @@ typeRow kind width abi preferred =
 
 abbrev pub pointerRow : ℕ → ℕ → Align → Align → ℕ → PointerAlignSpec
 pointerRow space size abi preferred index =
-    record { «address_space» = space; «pointer_size» = size; «abi_alignment» = abi; «preferred_alignment» = preferred; «index_size» = index }
+    record {
+      «address_space» =
+          space;
+      «pointer_size» = size;
+      «abi_alignment» = abi;
+      «preferred_alignment» = preferred;
+      «index_size» = index;
+    }
 
 abbrev pub defaultTypes : TypeAlignSpecs
 defaultTypes =
@@ -60,13 +69,14 @@ defaultTypes =
           ∷ typeRow Vector 64 align64 align64
           ∷ typeRow Vector 128 align128 align128
           ∷ typeRow Aggregate 0 align8 align64
-          ∷ replicate 52 (typeRow Integer 0 align8 align8);
+          ∷ replicate (maxTypeRows - 12) (typeRow Integer 0 align8 align8);
       count = 12;
     }
 
 -- "`p:64:64:64`"
 abbrev pub defaultPointers : PointerAlignSpecs
-defaultPointers = record { rows = pointerRow 0 64 align64 align64 64 ∷ replicate 31 (pointerRow 0 0 align8 align8 0); count = 1 }
+defaultPointers =
+    record { rows = pointerRow 0 64 align64 align64 64 ∷ replicate (maxPointerRows - 1) (pointerRow 0 0 align8 align8 0); count = 1 }
 
 abbrev pub defaultLayout : DataLayout
 defaultLayout =

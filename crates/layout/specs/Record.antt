@@ -16,7 +16,8 @@ use Rattle.layout.specs.declared.record.Listed.the-variants.{NativeInteg
 use Rattle.layout.specs.declared.record.DataLayout.{DataLayout}
 
 -- a layout from its fields, and its fields in the same order
-abbrev made : Endian → MaybeAlign → ℕ → ℕ → ℕ → TypeAlignSpecs → PointerAlignSpecs → Align → FunctionPointerAlign → Mangling → Numbers → Numbers
+abbrev made : Endian → MaybeAlign → ℕ → ℕ → ℕ → TypeAlignSpecs → PointerAlignSpecs → Align → FunctionPointerAlign → Mangling
+    → Numbers → Numbers
     → DataLayout
 made endian stack program global alloca types pointers aggregate function mangling widths spaces =
     record {
@@ -34,10 +35,12 @@ made endian stack program global alloca types pointers aggregate function mangli
       «non_integral_address_spaces» = spaces;
     }
 
-abbrev apart : DataLayout → (Endian → MaybeAlign → ℕ → ℕ → ℕ → TypeAlignSpecs → PointerAlignSpecs → Align → FunctionPointerAlign → Mangling → Numbers
+abbrev apart : DataLayout → (Endian → MaybeAlign → ℕ → ℕ → ℕ → TypeAlignSpecs → PointerAlignSpecs → Align → FunctionPointerAlign
+    → Mangling → Numbers
     → Numbers → DataLayout) → DataLayout
 apart l f =
-    f (l .endianness) (l .«natural_stack_alignment») (l .«program_address_space») (l .«global_variable_address_space») (l .«alloca_address_space»)
+    f (l .endianness) (l .«natural_stack_alignment») (l .«program_address_space») (l .«global_variable_address_space»)
+    (l .«alloca_address_space»)
     (l .«type_alignments») (l .«pointer_alignments») (l .«aggregate_alignment») (l .«function_pointer_alignment») (l .mangling)
     (l .«native_integer_widths») (l .«non_integral_address_spaces»)
 

@@ -1,6 +1,7 @@
 // "The layout record is consumed by each spec's method and handed back with one changed field" (01, "The form each place takes").
 ghost use mathlib.Core.Path.{_≡_};
-ghost use Rattle.layout.specs.Record.{withEndianness, withStack, withSpace, withTypes, withPointers, withFunctionPointer, withMangling, withNumbers};
+ghost use Rattle.layout.specs.Record.{withEndianness, withStack, withSpace, withTypes};
+ghost use Rattle.layout.specs.Record.{withPointers, withFunctionPointer, withMangling, withNumbers};
 use crate::numbers::Numbers;
 use crate::pointers::PointerAlignSpecs;
 use crate::record::DataLayout;

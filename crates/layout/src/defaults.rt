@@ -50,7 +50,7 @@ fn pointer_row(size: u64, shift: u8) -> PointerAlignSpec
     }
 }
 
-pub fn default_types() -> TypeAlignSpecs
+fn default_types() -> TypeAlignSpecs
     ensures { λ r. ⌜ r ≡ defaultTypes ⌝ }
 {
     let unused = type_row(AlignedType::Integer, 0, ALIGN8, ALIGN8);
@@ -70,7 +70,7 @@ pub fn default_types() -> TypeAlignSpecs
     TypeAlignSpecs { rows, count: 12 }
 }
 
-pub fn default_pointers() -> PointerAlignSpecs
+fn default_pointers() -> PointerAlignSpecs
     ensures { λ r. ⌜ r ≡ defaultPointers ⌝ }
 {
     let unused = pointer_row(0, ALIGN8);

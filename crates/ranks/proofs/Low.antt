@@ -25,12 +25,14 @@ Low-begin {n} {d} {ms} {e} h lt new =
     go x (here q v) two = absurd (omega arith)
     go x (away m v) two = let w = h .roof x (omega arith) in omega (arith, unstarted-begin ms e lt new)
 
-pub Low-finish : {n d : ℕ} {l : List ℕ} {e : ℕ} (k : ℕ) → Low n (d + 1) l → e < length l → k + (d + 1 + unstarted l) ≤ n → Low n d (set l e (k + 2))
+pub Low-finish : {n d : ℕ} {l : List ℕ} {e : ℕ} (k : ℕ) → Low n (d + 1) l → e < length l → k + (d + 1 + unstarted l) ≤ n
+    → Low n d (set l e (k + 2))
 Low-finish {n} {d} {l} {e} k h lt low =
     let u = unstarted-finish l e k lt in
     record { room = omega arith; roof = λ x. go x (stored l e (k + 2) x lt) }
   where
-    go : (x : ℕ) → Stored l e (k + 2) x → 2 ≤ getD (set l e (k + 2)) x 0 → getD (set l e (k + 2)) x 0 + (d + unstarted (set l e (k + 2))) ≤ n + 1
+    go : (x : ℕ) → Stored l e (k + 2) x → 2 ≤ getD (set l e (k + 2)) x 0 → getD (set l e (k + 2)) x 0 +
+        (d + unstarted (set l e (k + 2))) ≤ n + 1
     go x (here q v) two = omega (arith, unstarted-finish l e k lt)
     go x (away m v) two = let w = h .roof x (omega arith) in omega (arith, unstarted-finish l e k lt)
 
@@ -77,13 +79,16 @@ module _ (t : Table) where
   range : {p ms : List ℕ} {e r : ℕ} {rs l : List ℕ} {best : ℕ} → LowAmid p ms e (r ∷ rs) l best → t .count ≤ r → Any (Bad outOfRange e r)
   range h q = tt
 
-  past : {p ms : List ℕ} {e r : ℕ} {rs l : List ℕ} {best : ℕ} → LowAmid p ms e (r ∷ rs) l best → r < t .count → t .counts e r ≡ false → LowAmid p ms e rs l best
+  past : {p ms : List ℕ} {e r : ℕ} {rs l : List ℕ} {best : ℕ} → LowAmid p ms e (r ∷ rs) l best → r < t .count → t .counts e r ≡ false
+      → LowAmid p ms e rs l best
   past h lt c = record { start = h .start; new = h .new; sized = h .sized; fewer = h .fewer; low = h .low; rank = h .rank }
 
-  down : {p ms : List ℕ} {e r : ℕ} {rs l : List ℕ} {best : ℕ} → LowAmid p ms e (r ∷ rs) l best → r < t .count → t .counts e r ≡ true → LowAt (p ++ e ∷ []) l r
+  down : {p ms : List ℕ} {e r : ℕ} {rs l : List ℕ} {best : ℕ} → LowAmid p ms e (r ∷ rs) l best → r < t .count → t .counts e r ≡ true
+      → LowAt (p ++ e ∷ []) l r
   down {p} {e} h lt c = record { sized = h .sized; inside = lt; low = rw (length-append p (e ∷ [])) (h .low) }
 
-  up : {p ms : List ℕ} {e r : ℕ} {rs l : List ℕ} {best : ℕ} {l′ : List ℕ} {k : ℕ} → LowAmid p ms e (r ∷ rs) l best → r < t .count → t .counts e r ≡ true
+  up : {p ms : List ℕ} {e r : ℕ} {rs l : List ℕ} {best : ℕ} {l′ : List ℕ} {k : ℕ} → LowAmid p ms e (r ∷ rs) l best → r < t .count
+      → t .counts e r ≡ true
       → LowAfter (p ++ e ∷ []) l r l′ k → LowAmid p ms e rs l′ (max best (k + 1))
   up {p} {e} h lt c a =
       let len = length-append p (e ∷ []) in
@@ -101,7 +106,13 @@ module _ (t : Table) where
       let lt : e < length l = omega (arith, h .sized, h .start .inside) in
       let u = unstarted-finish l e k lt in
       let begun = unstarted-begin ms e (fits (h .start)) (h .new) in
-      record { sized = simp length-set (h .sized); fewer = omega (arith, h .fewer); low = Low-finish k (h .low) lt (h .rank); rank = omega (arith, h .rank) }
+      record {
+        sized = simp length-set (h .sized);
+        fewer = omega (arith, h .fewer);
+        low = Low-finish k (h .low) lt (h .rank);
+        rank = omega
+            (arith, h .rank);
+      }
 
   breaks : {p ms : List ℕ} {e : ℕ} {l : List ℕ} {k n r : ℕ} → LowAmid p ms e [] l k → t .rule e ≡ broken n r → Any (Bad n e r)
   breaks h q = tt
@@ -146,4 +157,5 @@ module _ (t : Table) where
   onward h a = record { sized = a .sized; low = a .low }
 
   pub resolve-low : Answered Any (λ l k. LowPass (t .count) l) (resolve t)
-  resolve-low = resolve-holds t Any LowAt LowAmid LowAfter method LowPass (record { first = first; sized = sized; next = next; onward = onward })
+  resolve-low = resolve-holds t Any LowAt LowAmid LowAfter method LowPass
+      (record { first = first; sized = sized; next = next; onward = onward })

@@ -3,7 +3,8 @@
 use mathlib.Core.Path.{_≡_, refl, sym, _∙_}
 use mathlib.Core.Logic.{_⊎_, inl, inr}
 use mathlib.Core.Bool.{Bool, true, false, cond}
-use mathlib.Core.List.{List, [], _∷_, _++_, List·Memᴰ, List·Memᴰ·head, List·Memᴰ·tail, Memᴰ·cast, List·Memᴰ·not-nil, List·Memᴰ·cases-cons, List·Memᴰ·append-cases, List·Memᴰ·eq-of-singleton}
+use mathlib.Core.List.{List, [], _∷_, _++_, List·Memᴰ, List·Memᴰ·head, List·Memᴰ·tail, Memᴰ·cast, List·Memᴰ·not-nil, List·Memᴰ·cases-cons}
+use mathlib.Core.List.{List·Memᴰ·append-cases, List·Memᴰ·eq-of-singleton}
 use Prim.Native.Nat.{ℕ, _≤_, _<_}
 use native.Mathlib.Omega.{arith}
 use lib.Dec.{eqb}
@@ -57,9 +58,11 @@ Apart-snoc (x ∷ xs) {e} a h = (λ m. apart (List·Memᴰ·append-cases xs m), 
 
 pub ring-of-path : (t : Table) (e : ℕ) (p : List ℕ) → List·Memᴰ e p → Led t p e → Apart p → Each (λ x. x < t .count) p → IsRing t (from e p)
 ring-of-path t e [] m h a i = absurd (List·Memᴰ·not-nil m)
-ring-of-path t e (x ∷ xs) m h a i = go (eqb x e) refl (List·Memᴰ·cases-cons m) (λ n. ring-of-path t e xs n (Led-tail t x xs e h) (a .1) (i .1))
+ring-of-path t e (x ∷ xs) m h a i = go (eqb x e) refl (List·Memᴰ·cases-cons m) (λ n. ring-of-path t e xs n (Led-tail t x xs e h) (a .1)
+    (i .1))
   where
-    go : (b : Bool) → eqb x e ≡ b → (e ≡ x) ⊎ List·Memᴰ e xs → (List·Memᴰ e xs → IsRing t (from e xs)) → IsRing t (cond b (x ∷ xs) (from e xs))
+    go : (b : Bool) → eqb x e ≡ b → (e ≡ x) ⊎ List·Memᴰ e xs → (List·Memᴰ e xs → IsRing t (from e xs))
+        → IsRing t (cond b (x ∷ xs) (from e xs))
     go true q c below = record { turns = rw (← eqb-true x e q) at h; apart = a; inside = i }
     go false q (inl c) below = absurd (eqb-false x e q (sym c))
     go false q (inr c) below = below c
@@ -70,14 +73,16 @@ apart-le-unstarted [] ms a i z = omega arith
 apart-le-unstarted (x ∷ xs) ms a i z =
     let begun = unstarted-begin ms x (i .0) (z .0) in
     let rest = apart-le-unstarted xs (set ms x 1) (a .1) (simp length-set (i .1))
-    (each-of-mem (λ y. getD (set ms x 1) y 0 ≡ 0) xs (λ y m. getD-set-other ms x y 1 0 (λ q. a .0 (Memᴰ·cast (sym q) m)) ∙ each-at (λ y. getD ms y 0 ≡ 0) m (z .1))) in
+    (each-of-mem (λ y. getD (set ms x 1) y 0 ≡ 0) xs (λ y m. getD-set-other ms x y 1 0 (λ q. a .0 (Memᴰ·cast (sym q) m)) ∙ each-at
+    (λ y. getD ms y 0 ≡ 0) m (z .1))) in
     omega arith
 
 pub ring-fits : (t : Table) (ring : List ℕ) → IsRing t ring → length ring ≤ t .count
 ring-fits t ring r =
     let n : ℕ = t .count in
     let ms : List ℕ = replicate n 0 in
-    let h = apart-le-unstarted ring ms (r .apart) (rw length-replicate (r .inside)) (each-of-mem (λ x. getD ms x 0 ≡ 0) ring (λ x m. getD-zeros n x)) in
+    let h = apart-le-unstarted ring ms (r .apart) (rw length-replicate (r .inside)) (each-of-mem (λ x. getD ms x 0 ≡ 0) ring
+    (λ x m. getD-zeros n x)) in
     omega (arith, h, unstarted-le-length ms, length-replicate {A = ℕ} n 0)
 
 module _ {t : Table} {ranks : List ℕ} (ok : Passes t ranks) where

@@ -68,7 +68,8 @@ module _ (t : Table) (l : List ℕ) (r : Resolved t (t .count) l) (b : LowPass t
 pub resolve-deserved : (t : Table) → Deserved t (resolve t)
 resolve-deserved t = go (resolve t .marks) (resolve t .answer) (resolve-answered t) (resolve-low t)
   where
-    go : (l : List ℕ) (a : Answer) → Holds (Stops t) (λ k. Resolved t (t .count) l) a → Holds Any (λ k. LowPass t (t .count) l) a → Means t l a
+    go : (l : List ℕ) (a : Answer) → Holds (Stops t) (λ k. Resolved t (t .count) l) a → Holds Any (λ k. LowPass t (t .count) l) a
+        → Means t l a
     go l (Rank k) r b = resolved-ranked t l r b
     go l (Ring ring) r b = record { isRing = r; fits = ring-fits t ring r; refutes = λ ranks ok. ring-refutes-ranks ok ring r }
     go l (Bad n e r) h b = record { fault = h .0; first = h .1; refutes = λ ranks ok. fault-refutes-ranks ok n e r (h .0) }
@@ -78,7 +79,11 @@ deserved-at t l a q = rw q at (resolve-deserved t)
 
 -- ranks that pass leave no refusal
 pub resolve-decided : (t : Table) → Decided t
-resolve-decided t = (λ a. (ranksOf (a .0), deserved-at t (a .0) (Rank (a .1)) (a .2) .passes), λ r. go (r .1) (resolve t .marks) (resolve t .answer) refl)
+resolve-decided t = (
+  λ a. (ranksOf (a .0), deserved-at t (a .0) (Rank (a .1)) (a .2) .passes),
+  λ r. go (r .1) (resolve t .marks)
+      (resolve t .answer) refl,
+)
   where
     go : {ranks : List ℕ} → Passes t ranks → (l : List ℕ) (a : Answer) → resolve t ≡ out l a → Accepts t
     go ok l (Rank k) q = (l, k, q)

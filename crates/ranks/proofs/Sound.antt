@@ -10,10 +10,12 @@ use native.Mathlib.Omega.{arith}
 use native.Mathlib.Decide.{ℕ-discrete}
 use lib.ListN.{length, getD, set, replicate, length-replicate}
 use lib.Seq.{getD-set-same}
-use Rattle.ranks.specs.Table.{kept, broken, Table, Each, IsRing, Fault, height, outOfRange, Done, Comes, upward, inward, First, range, rule}
+use Rattle.ranks.specs.Table.{kept, broken, Table, Each, IsRing, Fault, height, outOfRange, Done, Comes, upward, inward, First}
+use Rattle.ranks.specs.Table.{range, rule}
 use Rattle.ranks.specs.Walk.{Answer, Rank, Ring, Bad, from, resolve, unstarted, rankIn}
 use Rattle.ranks.proofs.Paths.{each-of-mem, each-snoc, Led, Led-snoc, ring-of-path}
-use Rattle.ranks.proofs.Marks.{lt-of-marked, Keeps, Keeps-refl, Keeps-trans, Keeps-set, unstarted-begin, unstarted-finish, getD-zeros}
+use Rattle.ranks.proofs.Marks.{lt-of-marked, Keeps, Keeps-refl, Keeps-trans, Keeps-set, unstarted-begin, unstarted-finish}
+use Rattle.ranks.proofs.Marks.{getD-zeros}
 use Rattle.ranks.proofs.State.{Settled, State, sound-of-finished, off-path, State-begin, mark-begun, Keeps-finish, State-finish}
 use Rattle.ranks.proofs.Steps.{Answered, Method, resolve-holds}
 
@@ -58,7 +60,8 @@ module _ (t : Table) where
   met-ring : {p ms : List ℕ} {e : ℕ} → Met p ms e → getD ms e 0 ≡ 1 → IsRing t (from e p)
   met-ring {p} {ms} {e} h q =
       ring-of-path t e p (h .state .begun e q) (h .led) (h .state .apart)
-      (each-of-mem (λ x. x < t .count) p (λ x m. let one = h .state .passed x m in rw (← h .state .sized) (lt-of-marked ms x (omega arith))))
+      (each-of-mem (λ x. x < t .count) p (λ x m. let one = h .state .passed x m in rw (← h .state .sized)
+      (lt-of-marked ms x (omega arith))))
 
   met-begin : {p ms : List ℕ} {e : ℕ} → Met p ms e → getD ms e 0 ≡ 0 → Midway p ms e (t .refs e) (set ms e 1) 0
   met-begin {p} {ms} {e} h q = record {
@@ -77,10 +80,12 @@ module _ (t : Table) where
   mid-listed : {p ms : List ℕ} {e r : ℕ} {rs l : List ℕ} {best : ℕ} → Midway p ms e (r ∷ rs) l best → List·Memᴰ r (t .refs e)
   mid-listed h = rw (h .parts) (Memᴰ·append-right (h .before) (List·Memᴰ·head refl))
 
-  mid-parts : {p ms : List ℕ} {e r : ℕ} {rs l : List ℕ} {best : ℕ} (h : Midway p ms e (r ∷ rs) l best) → t .refs e ≡ (h .before ++ r ∷ []) ++ rs
+  mid-parts : {p ms : List ℕ} {e r : ℕ} {rs l : List ℕ} {best : ℕ} (h : Midway p ms e (r ∷ rs) l best)
+      → t .refs e ≡ (h .before ++ r ∷ []) ++ rs
   mid-parts {r} {rs} h = h .parts ∙ sym (append-assoc (h .before) (r ∷ []) rs)
 
-  mid-past : {p ms : List ℕ} {e r : ℕ} {rs l : List ℕ} {best : ℕ} → Midway p ms e (r ∷ rs) l best → r < t .count → t .counts e r ≡ false → Midway p ms e rs l best
+  mid-past : {p ms : List ℕ} {e r : ℕ} {rs l : List ℕ} {best : ℕ} → Midway p ms e (r ∷ rs) l best → r < t .count → t .counts e r ≡ false
+      → Midway p ms e rs l best
   mid-past {e} {r} h lt c = record {
     met = h .met;
     new = h .new;
@@ -97,7 +102,8 @@ module _ (t : Table) where
       never : t .counts e r ≡ true → ⊥
       never d = let z : _≡_ {A = ℕ} 0 1 = cc in omega arith
 
-  mid-down : {p ms : List ℕ} {e r : ℕ} {rs l : List ℕ} {best : ℕ} → Midway p ms e (r ∷ rs) l best → r < t .count → t .counts e r ≡ true → Met (p ++ e ∷ []) l r
+  mid-down : {p ms : List ℕ} {e r : ℕ} {rs l : List ℕ} {best : ℕ} → Midway p ms e (r ∷ rs) l best → r < t .count → t .counts e r ≡ true
+      → Met (p ++ e ∷ []) l r
   mid-down {p} {rs} h lt c = record {
     state = h .state;
     inside = lt;
@@ -105,7 +111,8 @@ module _ (t : Table) where
     comes = inward (h .before) rs (h .met .comes) (h .parts) (h .passed) c;
   }
 
-  mid-up : {p ms : List ℕ} {e r : ℕ} {rs l : List ℕ} {best : ℕ} {l′ : List ℕ} {k : ℕ} → Midway p ms e (r ∷ rs) l best → r < t .count → t .counts e r ≡ true
+  mid-up : {p ms : List ℕ} {e r : ℕ} {rs l : List ℕ} {best : ℕ} {l′ : List ℕ} {k : ℕ} → Midway p ms e (r ∷ rs) l best → r < t .count
+      → t .counts e r ≡ true
       → Arrived (p ++ e ∷ []) l r l′ k → Midway p ms e rs l′ (max best (k + 1))
   mid-up {p} {e} {r} {rs} {best} {l′} {k} h lt c a = record {
     met = h .met;
@@ -115,7 +122,8 @@ module _ (t : Table) where
     fewer = omega (arith, a .fewer, h .fewer);
     before = h .before ++ r ∷ [];
     parts = mid-parts h;
-    passed = each-snoc (Done t e) (h .before) (h .passed) (record { inside = lt; resolved = λ d. sound-of-finished t (p ++ e ∷ []) l′ (a .state) r (omega (arith, a .mark)) });
+    passed = each-snoc (Done t e) (h .before) (h .passed)
+        (record { inside = lt; resolved = λ d. sound-of-finished t (p ++ e ∷ []) l′ (a .state) r (omega (arith, a .mark)) });
     settled = λ l″ q s. h .settled l″ (Keeps-trans (a .keeps) q) (record { inside = lt; done = λ d. omega (arith, mark l″ q) }, s);
     exact = λ l″ q. rw (c, mark l″ q, cut) at (h .exact l″ (Keeps-trans (a .keeps) q));
   }
@@ -135,18 +143,21 @@ module _ (t : Table) where
       let start = unstarted-begin ms e (met-fits (h .met)) (h .new) in
       record {
         state = State-finish t p l e k (h .state) (s .apart) off fine (h .settled l Keeps-refl tt) (h .exact l Keeps-refl);
-        keeps = Keeps-trans (Keeps-set ms e 1 (omega (arith, h .new))) (Keeps-trans (h .keeps) (Keeps-finish t p l e k (h .state) (s .apart) off));
+        keeps = Keeps-trans (Keeps-set ms e 1 (omega (arith, h .new)))
+            (Keeps-trans (h .keeps) (Keeps-finish t p l e k (h .state) (s .apart) off));
         fewer = omega (arith, start, h .fewer, unstarted-finish l e k lt);
         mark = getD-set-same l e (k + 2) 0 lt;
       }
 
-  mid-range : {p ms : List ℕ} {e r : ℕ} {rs l : List ℕ} {best : ℕ} → Midway p ms e (r ∷ rs) l best → t .count ≤ r → Fault t outOfRange e r × First t outOfRange e r
+  mid-range : {p ms : List ℕ} {e r : ℕ} {rs l : List ℕ} {best : ℕ} → Midway p ms e (r ∷ rs) l best → t .count ≤ r
+      → Fault t outOfRange e r × First t outOfRange e r
   mid-range {rs} h past = (
     inl (record { number = refl; entry = h .met .inside; listed = mid-listed h; past = past }),
     range (h .before) rs (h .met .comes) (h .parts) (h .passed) past,
   )
 
-  mid-breaks : {p ms : List ℕ} {e : ℕ} {l : List ℕ} {k n r : ℕ} → Midway p ms e [] l k → t .rule e ≡ broken n r → Fault t n e r × First t n e r
+  mid-breaks : {p ms : List ℕ} {e : ℕ} {l : List ℕ} {k n r : ℕ} → Midway p ms e [] l k → t .rule e ≡ broken n r
+      → Fault t n e r × First t n e r
   mid-breaks {e} h q = (inr (record { entry = h .met .inside; breaks = q }), rule (h .met .comes) all q)
     where
       all : Each (Done t e) (t .refs e)

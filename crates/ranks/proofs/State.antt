@@ -4,7 +4,8 @@
 use mathlib.Core.Path.{_≡_, refl, sym, _∙_}
 use mathlib.Core.Logic.{_⊎_, inl, inr}
 use mathlib.Core.Bool.{true}
-use mathlib.Core.List.{List, [], _∷_, _++_, List·Memᴰ, List·Memᴰ·head, Memᴰ·cast, Memᴰ·append-left, Memᴰ·append-right, List·Memᴰ·append-cases, List·Memᴰ·eq-of-singleton}
+use mathlib.Core.List.{List, [], _∷_, _++_, List·Memᴰ, List·Memᴰ·head, Memᴰ·cast, Memᴰ·append-left, Memᴰ·append-right}
+use mathlib.Core.List.{List·Memᴰ·append-cases, List·Memᴰ·eq-of-singleton}
 use Prim.Native.Nat.{ℕ, zero, suc, _+_, _-_, _≤_, _<_}
 use native.Mathlib.Omega.{arith}
 use lib.ListN.{length, getD, set, length-set}
@@ -52,9 +53,11 @@ module _ (t : Table) (p ms : List ℕ) (s : State t p ms) where
 
 module _ (t : Table) {ms l : List ℕ} (keeps : Keeps ms l) where
   pub settled-kept : (e : ℕ) (rs : List ℕ) → Each (Settled t ms e) rs → Each (Settled t l e) rs
-  settled-kept e rs s = each-map (Settled t ms e) (Settled t l e) rs (λ r h. record { inside = h .inside; done = λ c. rw (keeps .same r (h .done c)) (h .done c) }) s
+  settled-kept e rs s = each-map (Settled t ms e) (Settled t l e) rs
+      (λ r h. record { inside = h .inside; done = λ c. rw (keeps .same r (h .done c)) (h .done c) }) s
 
-  pub height-kept : (e best : ℕ) (rs : List ℕ) → Each (Settled t ms e) rs → height (rankIn ms) (t .counts e) best rs ≡ height (rankIn l) (t .counts e) best rs
+  pub height-kept : (e best : ℕ) (rs : List ℕ) → Each (Settled t ms e) rs → height (rankIn ms) (t .counts e) best rs ≡ height (rankIn l)
+      (t .counts e) best rs
   height-kept e best rs s =
       height-same (rankIn ms) (t .counts e) (rankIn l) best rs (each-map (Settled t ms e) _ rs (λ r h c. rw (keeps .same r (h .done c))) s)
 
@@ -104,7 +107,8 @@ module _ (t : Table) (p l : List ℕ) (e k : ℕ) (s : State t (p ++ e ∷ []) l
   pub Keeps-finish : Keeps l (set l e (k + 2))
   Keeps-finish = let one = mark-begun in Keeps-set l e (k + 2) (omega arith)
 
-  module _ (fine : t .rule e ≡ kept) (settled : Each (Settled t l e) (t .refs e)) (exact : k ≡ height (rankIn l) (t .counts e) 0 (t .refs e)) where
+  module _ (fine : t .rule e ≡ kept) (settled : Each (Settled t l e) (t .refs e)) (exact : k ≡ height (rankIn l) (t .counts e) 0
+      (t .refs e)) where
     pub State-finish : State t p (set l e (k + 2))
     State-finish = record {
       sized = simp length-set (s .sized);

@@ -11,7 +11,8 @@ use lib.Dec.{ltb}
 use lib.ListN.{length, getD, set, replicate}
 use borrow.Author.Tests.{ltb-true, ltb-false}
 use Rattle.ranks.specs.Table.{Verdict, kept, broken, Table, outOfRange}
-use Rattle.ranks.specs.Walk.{Answer, Rank, Ring, Bad, Out, out, onRank, andThen, byMark, judged, finish, from, stretch, entry, upward, resolve, unstarted}
+use Rattle.ranks.specs.Walk.{Answer, Rank, Ring, Bad, Out, out, onRank, andThen, byMark, judged, finish, from, stretch, entry}
+use Rattle.ranks.specs.Walk.{upward, resolve, unstarted}
 use Rattle.ranks.proofs.Marks.{unstarted-begin, unstarted-le-length}
 
 -- the answer is a rank of which G holds, or a refusal of which S holds
@@ -32,7 +33,8 @@ answered-then S G H o next h f = go (o .marks) (o .answer) h
     go l (Ring xs) h = h
     go l (Bad n e r) h = h
 
-pub answered-map : (S : Answer → Type 0) (G H : List ℕ → ℕ → Type 0) (o : Out) → ((l : List ℕ) (k : ℕ) → G l k → H l k) → Answered S G o → Answered S H o
+pub answered-map : (S : Answer → Type 0) (G H : List ℕ → ℕ → Type 0) (o : Out) → ((l : List ℕ) (k : ℕ) → G l k → H l k) → Answered S G o
+    → Answered S H o
 answered-map S G H o f h = go (o .marks) (o .answer) h
   where
     go : (l : List ℕ) (a : Answer) → Holds S (G l) a → Holds S (H l) a
@@ -53,8 +55,10 @@ module _ (t : Table) (S : Answer → Type 0) (g : List ℕ → ℕ → Out) (e :
   stretch-holds [] l best h = h
   stretch-holds (r ∷ rs) l best h = go (λ l b. stretch-holds rs l b) (ltb r (t .count)) refl (t .counts e r) refl
     where
-      go : ((l : List ℕ) (b : ℕ) → M rs l b → Answered S (M []) (stretch t g e l b rs)) → (b : Bool) → ltb r (t .count) ≡ b → (c : Bool) → t .counts e r ≡ c
-          → Answered S (M []) (cond b (cond c (andThen (g l r) (λ l k. stretch t g e l (max best (k + 1)) rs)) (stretch t g e l best rs)) (out l (Bad outOfRange e r)))
+      go : ((l : List ℕ) (b : ℕ) → M rs l b → Answered S (M []) (stretch t g e l b rs)) → (b : Bool) → ltb r (t .count) ≡ b → (c : Bool)
+          → t .counts e r ≡ c
+          → Answered S (M []) (cond b (cond c (andThen (g l r) (λ l k. stretch t g e l (max best (k + 1)) rs)) (stretch t g e l best rs))
+          (out l (Bad outOfRange e r)))
       go rest true q true c =
           answered-then S (λ l′ k. M rs l′ (max best (k + 1))) (M []) (g l r) (λ l k. stretch t g e l (max best (k + 1)) rs)
           (loop .walk h (ltb-true r (t .count) q) c) (λ l′ k a. rest l′ (max best (k + 1)) a)
@@ -76,7 +80,8 @@ module _ (t : Table) (S : Answer → Type 0) (Pre : List ℕ → List ℕ → �
         → Mid p ms e rs l best
     pub down : {p ms : List ℕ} {e r : ℕ} {rs l : List ℕ} {best : ℕ} → Mid p ms e (r ∷ rs) l best → r < t .count → t .counts e r ≡ true
         → Pre (p ++ e ∷ []) l r
-    pub up : {p ms : List ℕ} {e r : ℕ} {rs l : List ℕ} {best : ℕ} {l′ : List ℕ} {k : ℕ} → Mid p ms e (r ∷ rs) l best → r < t .count → t .counts e r ≡ true
+    pub up : {p ms : List ℕ} {e r : ℕ} {rs l : List ℕ} {best : ℕ} {l′ : List ℕ} {k : ℕ} → Mid p ms e (r ∷ rs) l best → r < t .count
+        → t .counts e r ≡ true
         → Post (p ++ e ∷ []) l r l′ k → Mid p ms e rs l′ (max best (k + 1))
     pub finishes : {p ms : List ℕ} {e : ℕ} {l : List ℕ} {k : ℕ} → Mid p ms e [] l k → t .rule e ≡ kept → Post p ms e (set l e (k + 2)) k
     pub breaks : {p ms : List ℕ} {e : ℕ} {l : List ℕ} {k n r : ℕ} → Mid p ms e [] l k → t .rule e ≡ broken n r → S (Bad n e r)
@@ -92,7 +97,8 @@ module _ (t : Table) (S : Answer → Type 0) (Pre : List ℕ → List ℕ → �
     abbrev Sound : List ℕ → ℕ → (List ℕ → ℕ → Out) → Type 0
     Sound p f g = (ms : List ℕ) (e : ℕ) → Pre p ms e → unstarted ms ≤ f → Answered S (Post p ms e) (g ms e)
 
-    loop : (p ms : List ℕ) (e f : ℕ) (g : List ℕ → ℕ → Out) → Sound (p ++ e ∷ []) f g → unstarted (set ms e 1) ≤ f → Loop t S g e (Mid p ms e)
+    loop : (p ms : List ℕ) (e f : ℕ) (g : List ℕ → ℕ → Out) → Sound (p ++ e ∷ []) f g → unstarted (set ms e 1) ≤ f
+        → Loop t S g e (Mid p ms e)
     loop p ms e f g sound enough = record { range = m .range; past = m .past; walk = walk }
       where
         walk : {r : ℕ} {rs l : List ℕ} {best : ℕ} → Mid p ms e (r ∷ rs) l best → r < t .count → t .counts e r ≡ true
@@ -132,7 +138,8 @@ module _ (t : Table) (S : Answer → Type 0) (Pre : List ℕ → List ℕ → �
             (λ l k w. judged-holds p ms e l k w (t .rule e) refl)
 
     module _ (Inv : ℕ → List ℕ → Type 0) (o : Onward Inv) where
-      upward-holds : (left i : ℕ) (ms : List ℕ) → i + left ≡ t .count → Inv i ms → Answered S (λ l k. Inv (t .count) l) (upward (t .count) t ms i left)
+      upward-holds : (left i : ℕ) (ms : List ℕ) → i + left ≡ t .count → Inv i ms → Answered S (λ l k. Inv (t .count) l)
+          (upward (t .count) t ms i left)
       unfolding upward
       upward-holds zero i ms q h = let e : i ≡ t .count = omega arith in rw (← e) h
       upward-holds (suc left) i ms q h =

@@ -98,9 +98,11 @@ pub record Done (t : Table) (e r : ℕ) : Type 0 where
 -- "From entry 0 upward: an entry's references are resolved in order, each fully"
 pub data Comes (t : Table) : ℕ → Type 0 where
   upward : {e : ℕ} → e < t .count → ((i : ℕ) → i < e → Sound t i) → Comes t e
-  inward : {e r : ℕ} (before after : List ℕ) → Comes t e → t .refs e ≡ before ++ r ∷ after → Each (Done t e) before → t .counts e r ≡ true → Comes t r
+  inward : {e r : ℕ} (before after : List ℕ) → Comes t e → t .refs e ≡ before ++ r ∷ after → Each (Done t e) before → t .counts e r ≡ true
+      → Comes t r
 
 -- a reference out of range behind references that are done with; or, "then its own rule is judged", the rule behind all of them
 pub data First (t : Table) : ℕ → ℕ → ℕ → Type 0 where
-  range : {e r : ℕ} (before after : List ℕ) → Comes t e → t .refs e ≡ before ++ r ∷ after → Each (Done t e) before → t .count ≤ r → First t outOfRange e r
+  range : {e r : ℕ} (before after : List ℕ) → Comes t e → t .refs e ≡ before ++ r ∷ after → Each (Done t e) before → t .count ≤ r
+      → First t outOfRange e r
   rule : {n e r : ℕ} → Comes t e → Each (Done t e) (t .refs e) → t .rule e ≡ broken n r → First t n e r

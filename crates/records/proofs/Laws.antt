@@ -5,3 +5,7 @@ pub mod Turn
 pub mod Steps
 pub mod Reading
 pub mod Passing
+pub mod Forms
+pub mod Entries
+pub mod Room
+pub mod Enough

@@ -6,3 +6,5 @@ pub mod Answers
 pub mod Values
 pub mod Held
 pub mod Putting
+pub mod Promises
+pub mod Samples

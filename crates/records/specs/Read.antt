@@ -2,6 +2,7 @@
 --     reading room ws            the entries of the stream ws, or the refusal
 --     roomOf r f n w             the room in outputs of these lengths: rows, references, names, witness
 --     shown r f n result         the answer and what the outputs of these lengths hold
+--     readInto ws r f n w        the whole of it: words ws, outputs that held r, f and n, a witness of length w
 -- Assumes nothing.
 use mathlib.Core.Bool.{cond}
 use mathlib.Core.List.{List, [], _∷_}
@@ -68,3 +69,7 @@ abbrev pub shown : ℕ → ℕ → ℕ → Result → Output
 shown r f n (taken es) =
     output (Accepted (length es)) (padded r (rowsOf es)) (padded f (refsOf es)) (padded n (namesOf es))
 shown r f n (refused a) = output a (zeros r) (zeros f) (zeros n)
+
+abbrev pub readInto : (words rows refs names : List ℕ) (witness : ℕ) → Output
+readInto words rows refs names witness =
+    shown (length rows) (length refs) (length names) (reading (roomOf (length rows) (length refs) (length names) witness) words)

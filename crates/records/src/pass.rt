@@ -44,7 +44,9 @@ fn take_record(
     entries: usize,
 ) -> Step
     requires { ⌜ Ready entries f (length (now rows)) (length (now refs)) (length (now fields)) ⌝ }
-    ensures after { λ r. ⌜ ((b : Buffers) (t : Table) → Holds b t (now (rows .entry)) (now (refs .entry)) (now (names .entry)) → f ≡ filledOf t → After b (stepOf (roomIn entries b) t code (now (fields .entry))) r (now (rows .exit)) (now (refs .exit)) (now (names .exit))) ⌝ }
+    ensures after { λ r. ⌜ ((b : Buffers) (t : Table)
+        → Holds b t (now (rows .entry)) (now (refs .entry)) (now (names .entry)) → f ≡ filledOf t
+        → After b (stepOf (roomIn entries b) t code (now (fields .entry))) r (now (rows .exit)) (now (refs .exit)) (now (names .exit))) ⌝ }
     ensures mark { λ r. ⌜ markOf r ≤ f .mark + length (now (fields .entry)) ⌝ }
 {
     match deed_on(shape_in(code, fields, f.taken < f.mark), f) {
@@ -67,7 +69,9 @@ pub fn read_records(
     entries: usize,
 ) -> Ended
     requires { ⌜ entries * rowWords ≤ length (now rows) ⌝ }
-    ensures { λ r. ⌜ Passed (buffersOf (now (rows .entry)) (now (refs .entry)) (now (names .entry))) (run (roomIn entries (buffersOf (now (rows .entry)) (now (refs .entry)) (now (names .entry)))) 0 empty (stream (now (words .entry)))) r (now (rows .exit)) (now (refs .exit)) (now (names .exit)) ⌝ }
+    ensures { λ r. ⌜ Passed (buffersOf (now (rows .entry)) (now (refs .entry)) (now (names .entry)))
+        (run (roomIn entries (buffersOf (now (rows .entry)) (now (refs .entry)) (now (names .entry)))) 0 empty (stream (now (words .entry))))
+        r (now (rows .exit)) (now (refs .exit)) (now (names .exit)) ⌝ }
 {
     let mut at = 0;
     let mut number = 0;

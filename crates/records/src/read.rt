@@ -7,7 +7,7 @@ ghost use lib.ListN.{length};
 ghost use Rattle.table.specs.Rows.{rowWords};
 ghost use Rattle.stream.specs.Stream.{stream, framed};
 ghost use Rattle.stream.specs.Count.{numEntries, statedBy};
-ghost use Rattle.records.specs.Read.{reading, roomOf, output, shown};
+ghost use Rattle.records.specs.Read.{reading, output, readInto};
 ghost use Rattle.records.specs.Held.{buffersOf, roomIn, openingOf, keepNone, keepAll, Left};
 use crate::Answer;
 use crate::Ended;
@@ -75,7 +75,9 @@ fn first_pass(
     entries: usize,
 ) -> Kept
     requires { ⌜ entries * rowWords ≤ length (now rows) ⌝ }
-    ensures { λ r. ⌜ Left (buffersOf (now (rows .entry)) (now (refs .entry)) (now (names .entry))) (reading (roomIn entries (buffersOf (now (rows .entry)) (now (refs .entry)) (now (names .entry)))) (now (words .entry))) r (now (rows .exit)) (now (refs .exit)) (now (names .exit)) ⌝ }
+    ensures { λ r. ⌜ Left (buffersOf (now (rows .entry)) (now (refs .entry)) (now (names .entry)))
+        (reading (roomIn entries (buffersOf (now (rows .entry)) (now (refs .entry)) (now (names .entry)))) (now (words .entry)))
+        r (now (rows .exit)) (now (refs .exit)) (now (names .exit)) ⌝ }
 {
     match opening_of(words) {
         Opening::Bad(answer) => keep_none(answer),
@@ -100,7 +102,8 @@ pub fn read(
     names: &mut [u8],
     witness: usize,
 ) -> Answer
-    ensures { λ r. ⌜ output r (now (rows .exit)) (now (refs .exit)) (now (names .exit)) ≡ shown (length (now (rows .entry))) (length (now (refs .entry))) (length (now (names .entry))) (reading (roomOf (length (now (rows .entry))) (length (now (refs .entry))) (length (now (names .entry))) witness) (now (words .entry))) ⌝ }
+    ensures { λ r. ⌜ output r (now (rows .exit)) (now (refs .exit)) (now (names .exit))
+        ≡ readInto (now (words .entry)) (now (rows .entry)) (now (refs .entry)) (now (names .entry)) witness ⌝ }
 {
     let entries = least(MAX_ENTRIES, least(entry_room(rows.len()), witness));
     let kept = first_pass(words, rows, refs, names, entries);

@@ -89,7 +89,8 @@ fn grow(p: Put, f: Filled) -> Filled
 
 // Of a pending name what does not fit is not kept: a struct that took it would be refused.
 pub fn stage(names: &mut [u8], fields: &[u64], mark: usize)
-    ensures { λ _. ⌜ ((xs b : List ℕ) → now (names .entry) ≡ over xs b → mark ≡ length xs → now (names .exit) ≡ over (xs ++ lowBytes (now (fields .entry))) b) ⌝ }
+    ensures { λ _. ⌜ ((xs b : List ℕ) → now (names .entry) ≡ over xs b → mark ≡ length xs
+        → now (names .exit) ≡ over (xs ++ lowBytes (now (fields .entry))) b) ⌝ }
 {
     if names.len() <= mark {
         return;
@@ -107,7 +108,10 @@ pub fn put(
     entries: usize,
 ) -> Step
     requires { ⌜ Ready entries f (length (now rows)) (length (now refs)) (length (now fields)) × Fits p f (length (now fields)) ⌝ }
-    ensures after { λ r. ⌜ ((b : Buffers) (t : Table) (z : List ℕ) (front : List Entry) (e : Entry) → Holds b t (now (rows .entry)) (now (refs .entry)) z → f ≡ filledOf t → names ≡ length (b .names) → Puts t (now (fields .entry)) p front e → After b (after (roomIn entries b) t (puts front e)) r (now (rows .exit)) (now (refs .exit)) z) ⌝ }
+    ensures after { λ r. ⌜ ((b : Buffers) (t : Table) (z : List ℕ) (front : List Entry) (e : Entry)
+        → Holds b t (now (rows .entry)) (now (refs .entry)) z → f ≡ filledOf t → names ≡ length (b .names)
+        → Puts t (now (fields .entry)) p front e
+        → After b (after (roomIn entries b) t (puts front e)) r (now (rows .exit)) (now (refs .exit)) z) ⌝ }
     ensures mark { λ r. ⌜ markOf r ≤ f .mark ⌝ }
 {
     if has_room(p, f, entries, refs.len(), names) {

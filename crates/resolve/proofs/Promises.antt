@@ -22,8 +22,11 @@ use Rattle.walk.specs.Answers.{Paper, accepted, refused, cycle, paperOf, paperI
 use Rattle.walk.specs.Resolve.{witnessBy, Resolves}
 use Rattle.checker.specs.Checked.{checked}
 use Rattle.resolve.specs.Formed.{wellFormed}
-use Rattle.resolve.specs.Promises.{Lowest, RingFirst, Demand3, Determined}
+use Rattle.resolve.specs.Promises.{Lowest, RingFirst, Demand3, Determined, Flat}
+use Rattle.resolve.specs.Entries.{entriesFrom}
 use Rattle.resolve.proofs.Laws.Checked.{checked-passes, passes-checked}
+use Rattle.resolve.proofs.Laws.Entries.{holds-wellFormed, holds-unique}
+use Rattle.resolve.proofs.Laws.Reading.{wellFormed-holds}
 use Rattle.resolve.proofs.Laws.Answers.{paperOf-unique, ruleAt-no-cycle}
 
 -- zeros behind a list change nothing that is read
@@ -70,7 +73,8 @@ module _ (rows refs names : List ℕ) (n room : ℕ) (r : Resolution) (w : List 
             ≡ height (λ x. getD w x 0) (tableOf rows refs n .counts e) 0 (tableOf rows refs n .refs e)
         same e =
             height-same (λ x. getD (ranksOf l) x 0) (tableOf rows refs n .counts e) (λ x. getD w x 0) 0 (tableOf rows refs n .refs e)
-            (each-of-mem (λ x. tableOf rows refs n .counts e x ≡ true → getD (ranksOf l) x 0 ≡ getD w x 0) (tableOf rows refs n .refs e) (λ x m c. sym (at x)))
+            (each-of-mem (λ x. tableOf rows refs n .counts e x ≡ true → getD (ranksOf l) x 0 ≡ getD w x 0) (tableOf rows refs n .refs e)
+            (λ x m c. sym (at x)))
 
     never : {A : Type 0} → (p e d : ℕ) → accepted ≡ refused p e d → A
     never p e d h = let z : _≡_ {A = ℕ} 0 1 = cc in absurd (omega arith)
@@ -79,7 +83,8 @@ module _ (rows refs names : List ℕ) (n room : ℕ) (r : Resolution) (w : List 
     fault-no-cycle p e d (inl h) q = omega (arith, h .number)
     fault-no-cycle p e d (inr h) q = ruleAt-no-cycle rows refs e p d (h .breaks) q
 
-    by-answer : (a : Answer) → Means (tableOf rows refs n) l a → paperOf r ≡ paperIn a → w ≡ padded room (witnessBy a l) → Demand3 rows refs names n room r w
+    by-answer : (a : Answer) → Means (tableOf rows refs n) l a → paperOf r ≡ paperIn a → w ≡ padded room (witnessBy a l)
+        → Demand3 rows refs names n room r w
     by-answer (Rank k) m says is = record {
       decided = (λ q. (w, lowest m is .passes), λ some. says);
       ranked = λ q. lowest m is;
@@ -88,7 +93,11 @@ module _ (rows refs names : List ℕ) (n room : ℕ) (r : Resolution) (w : List 
       refuted = λ p e d q. never p e d (sym says ∙ q);
     }
     by-answer (Ring xs) m says is = record {
-      decided = (λ q. never cycle _ _ (sym q ∙ says), λ some. absurd (m .refutes (some .0) (checked-passes rows refs names (some .0) n (some .1) .1)));
+      decided = (
+        λ q. never cycle _ _ (sym q ∙ says),
+        λ some. absurd
+            (m .refutes (some .0) (checked-passes rows refs names (some .0) n (some .1) .1)),
+      );
       ranked = λ q. never cycle _ _ (sym q ∙ says);
       ring = λ k j q. let s = sym says ∙ q in record {
         ring = xs;
@@ -101,7 +110,11 @@ module _ (rows refs names : List ℕ) (n room : ℕ) (r : Resolution) (w : List 
       refuted = λ p e d q ranks ok. m .refutes ranks (checked-passes rows refs names ranks n ok .1);
     }
     by-answer (Bad p e d) m says is = record {
-      decided = (λ q. never p e d (sym q ∙ says), λ some. absurd (m .refutes (some .0) (checked-passes rows refs names (some .0) n (some .1) .1)));
+      decided = (
+        λ q. never p e d (sym q ∙ says),
+        λ some. absurd
+            (m .refutes (some .0) (checked-passes rows refs names (some .0) n (some .1) .1)),
+      );
       ranked = λ q. never p e d (sym q ∙ says);
       ring = λ k j q. let s = sym says ∙ q in let c : p ≡ cycle = cc in absurd (fault-no-cycle p e d (m .fault) c);
       blamed = λ p′ e′ d′ q other. let s = sym says ∙ q in
@@ -113,7 +126,21 @@ module _ (rows refs names : List ℕ) (n room : ℕ) (r : Resolution) (w : List 
     }
 
   pub demand-3 : Resolves rows refs n room r w → Demand3 rows refs names n room r w
-  demand-3 h = by-answer (resolve (tableOf rows refs n) .marks) (resolve (tableOf rows refs n) .answer) (resolve-deserved (tableOf rows refs n)) (h .answer) (h .content)
+  demand-3 h = by-answer (resolve (tableOf rows refs n) .marks) (resolve (tableOf rows refs n) .answer)
+      (resolve-deserved (tableOf rows refs n)) (h .answer) (h .content)
 
 pub determined : (rows refs : List ℕ) (n room : ℕ) → Determined rows refs n room
 determined rows refs n room r s w v h k = (paperOf-unique r s (h .answer ∙ sym (k .answer)), h .content ∙ sym (k .content))
+
+pub flat : (rows refs names ranks : List ℕ) (n : ℕ) → Flat rows refs names ranks n
+flat rows refs names ranks n = (
+  (
+    λ h.
+        let p = checked-passes rows refs names ranks n h in
+        let f = wellFormed-holds rows refs names n (p .0) in
+        (entriesFrom rows refs names n 0, f .0, f .1, p .1),
+    λ s. passes-checked rows refs names ranks n (rw (s .1) at (holds-wellFormed rows refs names (s .0) (s .2))) (s .3),
+  ),
+  λ es fs h k len. sym (holds-unique rows refs names es h) ∙ (ap (λ (m : ℕ). entriesFrom rows refs names m 0) len
+      ∙ holds-unique rows refs names fs k),
+)

@@ -3,6 +3,8 @@
 --     Lowest                 ranks that pass the checker, and of all that do the lowest
 --     RingFirst              a ring that starts with k and has m entries, first in the witness
 --     Demand3                the demand, for rows that are well formed
+--     Determined             no second answer fits
+--     Flat                   the checker says yes exactly of the flat form of one list of entries, lawful with the ranks
 -- Assumes nothing.
 use mathlib.Core.Path.{_≡_}
 use mathlib.Core.Logic.{_↔_}
@@ -11,13 +13,15 @@ use mathlib.Core.List.{List}
 use Prim.Native.Nat.{ℕ, _≤_, _<_}
 use lib.ListN.{length, getD}
 use Rattle.table.specs.Buffers.{zeros, padded}
-use Rattle.ranks.specs.Table.{IsRing, height}
+use Rattle.table.specs.Entries.{Entry}
+use Rattle.ranks.specs.Table.{Passes, IsRing, height}
 use Rattle.ranks.specs.Promises.{Blamed}
 use Rattle.rules.specs.Lawful.{tableOf}
 use Rattle.walk.specs.declared.Resolution.{Resolution}
 use Rattle.walk.specs.Answers.{accepted, refused, cycle, paperOf}
 use Rattle.walk.specs.Resolve.{Resolves}
 use Rattle.checker.specs.Checked.{checked}
+use Rattle.resolve.specs.Entries.{Holds}
 
 -- 2. "the ranks handed back pass it, and are entry by entry the lowest of all that do; each is less than the entry count"
 pub record Lowest (rows refs names : List ℕ) (n : ℕ) (w : List ℕ) : Type 0 where
@@ -48,3 +52,9 @@ pub record Demand3 (rows refs names : List ℕ) (n room : ℕ) (r : Resolution) 
 abbrev pub Determined : List ℕ → List ℕ → ℕ → ℕ → Type 0
 Determined rows refs n room =
     (r s : Resolution) (w v : List ℕ) → Resolves rows refs n room r w → Resolves rows refs n room s v → (r ≡ s) × (w ≡ v)
+
+abbrev pub Flat : List ℕ → List ℕ → List ℕ → List ℕ → ℕ → Type 0
+Flat rows refs names ranks n =
+    ((checked rows refs names ranks n ≡ true) ↔ ((es : List Entry) × (length es ≡ n) × Holds rows refs names es × Passes
+    (tableOf rows refs n) ranks))
+    × ((es fs : List Entry) → Holds rows refs names es → Holds rows refs names fs → length es ≡ length fs → es ≡ fs)

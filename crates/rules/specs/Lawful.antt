@@ -43,7 +43,8 @@ numberOf Unruled = 0
 -- "first bad referent", from reference number i of an entry of the kind on
 unfoldable pub firstBad : List ℕ → ℕ → ℕ → List ℕ → Verdict
 firstBad rows kind i [] = kept
-firstBad rows kind i (r ∷ rs) = cond (suits kind i (rowAt rows r .kind)) (firstBad rows kind (suc i) rs) (broken (numberOf (placeAt kind i)) r)
+firstBad rows kind i (r ∷ rs) = cond (suits kind i (rowAt rows r .kind)) (firstBad rows kind (suc i) rs)
+    (broken (numberOf (placeAt kind i)) r)
 
 unfoldable pub ruleAt : List ℕ → List ℕ → ℕ → Verdict
 ruleAt rows refs e =

@@ -2,7 +2,8 @@
 -- Assumes nothing.
 use Prim.Native.Nat.{ℕ}
 use Rattle.shapes.specs.declared.Fault.{Fault}
-use Rattle.shapes.specs.declared.Fault.the-variants.{LacksField, UnknownCode, OldFunction, BadName, NamelessOpaque, AlreadyFilled, SpaceTooLarge, NoRoom}
+use Rattle.shapes.specs.declared.Fault.the-variants.{LacksField, UnknownCode, OldFunction, BadName, NamelessOpaque, AlreadyFilled}
+use Rattle.shapes.specs.declared.Fault.the-variants.{SpaceTooLarge, NoRoom}
 
 -- "2 record lacks a field; 3 unknown code; 4 FunctionOld; 5 bad name; 6 Opaque without name; 7 last struct already filled;
 -- 8 space too large; 9 no room"

@@ -11,7 +11,8 @@ use lib.Dec.{ltb}
 use lib.ListN.{length, getD}
 use Rattle.units.specs.Limits.{isAddressSpace}
 use Rattle.kinds.specs.declared.code.TypeCode.{TypeCode}
-use Rattle.kinds.specs.declared.code.TypeCode.the-variants.{NumEntry, Plain, Opaque, Integer, Pointer, FunctionOld, Array, Vector, StructAnon, StructName, StructNamed, Function, OpaquePointer, Unknown}
+use Rattle.kinds.specs.declared.code.TypeCode.the-variants.{NumEntry, Plain, Opaque, Integer, Pointer, FunctionOld, Array, Vector}
+use Rattle.kinds.specs.declared.code.TypeCode.the-variants.{StructAnon, StructName, StructNamed, Function, OpaquePointer, Unknown}
 use Rattle.kinds.specs.Codes.{typeCode}
 use Rattle.kinds.specs.Kinds as kind
 use Rattle.utf8.specs.Utf8.{isUtf8}

@@ -2,7 +2,8 @@
 ghost use mathlib.Core.Path.{_≡_};
 ghost use Prim.Native.Nat.{_-_};
 ghost use lib.ListN.{getD};
-ghost use Rattle.shapes.specs.Shapes.{needed, flagOf, adds, spaced, vectorKind, namedStruct, opaqueIf, wholeShape, shapeOf, seenIn, spelled, shapeIn};
+ghost use Rattle.shapes.specs.Shapes.{needed, flagOf, adds, spaced, vectorKind, namedStruct, opaqueIf};
+ghost use Rattle.shapes.specs.Shapes.{wholeShape, shapeOf, seenIn, spelled, shapeIn};
 use crate::Fault;
 use crate::Head;
 use crate::Seen;

@@ -1,6 +1,7 @@
 // One spec: its letter, then the rest of it (`DataLayout::from_str` of datalayout.rs).
 ghost use mathlib.Core.Path.{_≡_};
-ghost use Rattle.spec.specs.Specs.{stackIn, addressSpaceIn, functionLetter, functionPointerIn, manglingIn, pointerOf, typeOf, plainIn, specIn};
+ghost use Rattle.spec.specs.Specs.{stackIn, addressSpaceIn, functionLetter, functionPointerIn};
+ghost use Rattle.spec.specs.Specs.{manglingIn, pointerOf, typeOf, plainIn, specIn};
 ghost use Rattle.spec.specs.Edition.{manglingLetter};
 ghost use Rattle.fields.specs.Parts.{colon, partsOf};
 ghost use Rattle.spec.specs.Pointer.{pointerIn};

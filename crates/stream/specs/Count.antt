@@ -7,7 +7,8 @@ use mathlib.Core.Bool.{Bool, true, false, cond}
 use mathlib.Core.List.{List, [], _∷_, _++_}
 use Prim.Native.Nat.{ℕ}
 use Rattle.kinds.specs.declared.code.TypeCode.{TypeCode}
-use Rattle.kinds.specs.declared.code.TypeCode.the-variants.{NumEntry, Plain, Opaque, Integer, Pointer, FunctionOld, Array, Vector, StructAnon, StructName, StructNamed, Function, OpaquePointer, Unknown}
+use Rattle.kinds.specs.declared.code.TypeCode.the-variants.{NumEntry, Plain, Opaque, Integer, Pointer, FunctionOld, Array, Vector}
+use Rattle.kinds.specs.declared.code.TypeCode.the-variants.{StructAnon, StructName, StructNamed, Function, OpaquePointer, Unknown}
 use Rattle.kinds.specs.Codes.{typeCode}
 use Rattle.stream.specs.declared.Stated.{Stated}
 use Rattle.stream.specs.declared.Stated.the-variants.{Nothing, Count, Faulty}

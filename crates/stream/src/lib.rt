@@ -66,7 +66,8 @@ pub fn framing(words: &[u64]) -> Frame
 
 // What is stated once one more record was seen.
 fn count_in(before: Stated, code: u64, fields: &[u64]) -> Stated
-    ensures { λ r. ⌜ ((seen : List (List ℕ)) → before ≡ statedBy seen → r ≡ statedBy (seen ++ numEntryIn code (now (fields .entry)))) ⌝ }
+    ensures { λ r. ⌜ ((seen : List (List ℕ)) → before ≡ statedBy seen
+        → r ≡ statedBy (seen ++ numEntryIn code (now (fields .entry)))) ⌝ }
 {
     if code != NUM_ENTRY {
         return before;

@@ -1,2 +1,3 @@
 pub mod Buffers
 pub mod Rows
+pub mod Back

@@ -6,6 +6,7 @@
 --     Ready ms d c         the walk may go on at depth d, where c is counted besides the entries not started
 --     Kept a .. d c        and may go on after the answer a, if that is a rank
 --     Shows p l a o        the witness l and the answer a show the outcome o, below the path p
+--     EntryWalked, StretchWalked   both, of an entry and of a stretch of references
 -- Assumes nothing.
 use mathlib.Core.Path.{_≡_}
 use mathlib.Core.Bool.{cond}
@@ -17,7 +18,7 @@ use Rattle.table.specs.Buffers.{zeros, padded}
 use Rattle.table.specs.declared.Rank.{Rank}
 use Rattle.ranks.specs.Walk as ranks
 use Rattle.ranks.specs.Walk.{Out, out, unstarted}
-use Rattle.rules.specs.Lawful.{maxEntries}
+use Rattle.rules.specs.Lawful.{maxEntries, tableOf}
 use Rattle.walk.specs.declared.judge.Stretch.{Stretch}
 use Rattle.walk.specs.declared.Walked.{Walked}
 use Rattle.walk.specs.declared.Walked.the-variants.{Ranked, Ring, Refused}
@@ -84,3 +85,15 @@ Shows p l (Refused e f) o = o .answer ≡ ranks.Bad (numberIn f) e (detailIn f)
 pub record Finished (before after : List ℕ) (e k : ℕ) (a : Walked) (o : Out) : Type 0 where
   pub shows : (p : List ℕ) → Shows p after a o
   pub stored : (r : Rank) → a ≡ Ranked r → (r .0 ≡ k) × (after ≡ set before e (k + finished))
+
+-- what the walk of entry e leaves and answers, from the marks ms on
+pub record EntryWalked (rows refs ms : List ℕ) (d e : ℕ) (l : List ℕ) (a : Walked) : Type 0 where
+  pub kept : Kept a ms l d (d + 1)
+  pub shows : (f : ℕ) (p : List ℕ) → unstarted ms ≤ f → length p ≡ d → Path p ms
+      → Shows p l a (ranks.entry f (tableOf rows refs (length ms)) p (plainly ms) e)
+
+-- and that of the references rs of e
+pub record StretchWalked (rows refs ms : List ℕ) (d e : ℕ) (rs l : List ℕ) (a : Walked) : Type 0 where
+  pub kept : Kept a ms l d d
+  pub shows : (f : ℕ) (p : List ℕ) → unstarted ms ≤ f → length p ≡ d → Path p ms
+      → Shows p l a (ranks.stretch (tableOf rows refs (length ms)) (ranks.entry f (tableOf rows refs (length ms)) p) e (plainly ms) 0 rs)

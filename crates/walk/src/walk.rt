@@ -2,15 +2,15 @@
 // 0 not started; one more than its depth while it is on the path; then its rank and FINISHED. At a ring all marks are cleared, and
 // each entry of the ring writes itself as the answer goes back over it, so that no path is stored.
 ghost use mathlib.Core.Path.{_≡_};
-ghost use Prim.Native.Nat.{ℕ, _+_, _≤_, _<_, max};
-ghost use mathlib.Core.List.{List, []};
+ghost use Prim.Native.Nat.{_+_, _≤_, _<_, max};
+ghost use mathlib.Core.List.{[]};
 ghost use lib.ListN.{length, take, drop};
 ghost use Rattle.table.specs.Buffers.{zeros};
-ghost use Rattle.ranks.specs.Walk.{unstarted, entry, stretch, judged};
+ghost use Rattle.ranks.specs.Walk.{judged};
 ghost use Rattle.ranks.specs.Walk as ranks;
 ghost use Rattle.rules.specs.Lawful.{ruleAt, tableOf, maxEntries};
 ghost use Rattle.walk.specs.Resolve.{entriesOf, Resolves};
-ghost use Rattle.walk.specs.Marks.{plainly, Path, Ready, Kept, Shows, Finished};
+ghost use Rattle.walk.specs.Marks.{plainly, Ready, Shows, Finished, EntryWalked, StretchWalked};
 use crate::Fault;
 use crate::Judged;
 use crate::Resolution;
@@ -40,7 +40,8 @@ fn above(best: Rank, rank: Rank) -> Rank
 fn finish(rows: &[u64], refs: &[u64], marks: &mut [u64], e: usize, rank: Rank) -> Walked
     requires within { ⌜ e < length (now marks) ⌝ }
     requires low { ⌜ rank .0 < maxEntries ⌝ }
-    ensures { λ r. ⌜ Finished (now (marks .entry)) (now (marks .exit)) e (rank .0) r (judged (ruleAt (now (rows .entry)) (now (refs .entry)) e) e (plainly (now (marks .entry))) (rank .0)) ⌝ }
+    ensures { λ r. ⌜ Finished (now (marks .entry)) (now (marks .exit)) e (rank .0) r
+        (judged (ruleAt (now (rows .entry)) (now (refs .entry)) e) e (plainly (now (marks .entry))) (rank .0)) ⌝ }
 {
     match judge(rows, refs, e) {
         Judged::Kept => {
@@ -54,8 +55,7 @@ fn finish(rows: &[u64], refs: &[u64], marks: &mut [u64], e: usize, rank: Rank) -
 fn resolve_entry(rows: &[u64], refs: &[u64], marks: &mut [u64], depth: usize, e: usize) -> Walked
     requires within { ⌜ e < length (now marks) ⌝ }
     requires ready { ⌜ Ready (now marks) depth depth ⌝ }
-    ensures kept { λ r. ⌜ Kept r (now (marks .entry)) (now (marks .exit)) depth (depth + 1) ⌝ }
-    ensures shows { λ r. ⌜ ((f : ℕ) (p : List ℕ) → unstarted (now (marks .entry)) ≤ f → length p ≡ depth → Path p (now (marks .entry)) → Shows p (now (marks .exit)) r (entry f (tableOf (now (rows .entry)) (now (refs .entry)) (length (now (marks .entry)))) p (plainly (now (marks .entry))) e)) ⌝ }
+    ensures { λ r. ⌜ EntryWalked (now (rows .entry)) (now (refs .entry)) (now (marks .entry)) depth e (now (marks .exit)) r ⌝ }
 {
     let m = marks[e];
     if FINISHED <= m {
@@ -72,7 +72,7 @@ fn resolve_entry(rows: &[u64], refs: &[u64], marks: &mut [u64], depth: usize, e:
     let part = clipped(row.first, row.count, refs.len());
     let at = part.at;
     let left = part.left;
-    match resolve_stretch(rows, refs, marks, depth + 1, e, at, left, Rank(0)) {
+    match resolve_stretch(rows, refs, marks, depth + 1, e, at, left) {
         Walked::Ranked(rank) => finish(rows, refs, marks, e, rank),
         Walked::Ring(k, from, len) => {
             enter_ring(marks, depth, from, e);
@@ -82,6 +82,7 @@ fn resolve_entry(rows: &[u64], refs: &[u64], marks: &mut [u64], depth: usize, e:
     }
 }
 
+// The references of entry e, in order, each fully. A loop, so that a stretch of any length takes one frame of the stack.
 fn resolve_stretch(
     rows: &[u64],
     refs: &[u64],
@@ -90,38 +91,42 @@ fn resolve_stretch(
     e: usize,
     at: usize,
     left: usize,
-    best: Rank,
 ) -> Walked
     requires within { ⌜ at + left ≤ length (now refs) ⌝ }
-    requires ready { ⌜ Ready (now marks) depth (best .0 + depth) ⌝ }
-    ensures kept { λ r. ⌜ Kept r (now (marks .entry)) (now (marks .exit)) depth depth ⌝ }
-    ensures shows { λ r. ⌜ ((f : ℕ) (p : List ℕ) → unstarted (now (marks .entry)) ≤ f → length p ≡ depth → Path p (now (marks .entry)) → Shows p (now (marks .exit)) r (stretch (tableOf (now (rows .entry)) (now (refs .entry)) (length (now (marks .entry)))) (entry f (tableOf (now (rows .entry)) (now (refs .entry)) (length (now (marks .entry)))) p) e (plainly (now (marks .entry))) (best .0) (take left (drop at (now (refs .entry)))))) ⌝ }
+    requires ready { ⌜ Ready (now marks) depth depth ⌝ }
+    ensures { λ r. ⌜ StretchWalked (now (rows .entry)) (now (refs .entry)) (now (marks .entry)) depth e
+        (take left (drop at (now (refs .entry)))) (now (marks .exit)) r ⌝ }
 {
-    if left == 0 {
-        return Walked::Ranked(best);
-    }
-    let to = refs[at];
-    let k = to as usize;
-    if marks.len() <= k {
-        return Walked::Refused(e, Fault::OutOfRange(to));
-    }
-    if !counts(row_at(rows, e), row_at(rows, k)) {
-        return resolve_stretch(rows, refs, marks, depth, e, at + 1, left - 1, best);
-    }
-    match resolve_entry(rows, refs, marks, depth, k) {
-        Walked::Ranked(rank) => {
-            let next = above(best, rank);
-            resolve_stretch(rows, refs, marks, depth, e, at + 1, left - 1, next)
+    let end = at + left;
+    let mut best = Rank(0);
+    let mut i = at;
+    while i < end {
+        let to = refs[i];
+        let k = to as usize;
+        if marks.len() <= k {
+            return Walked::Refused(e, Fault::OutOfRange(to));
         }
-        other => other,
+        if !counts(row_at(rows, e), row_at(rows, k)) {
+            i += 1;
+            continue;
+        }
+        match resolve_entry(rows, refs, marks, depth, k) {
+            Walked::Ranked(rank) => {
+                best = above(best, rank);
+                i += 1;
+            }
+            other => return other,
+        }
     }
+    Walked::Ranked(best)
 }
 
 // "From entry 0 upward".
 fn resolve_upward(rows: &[u64], refs: &[u64], marks: &mut [u64]) -> Walked
     requires few { ⌜ length (now marks) ≤ maxEntries ⌝ }
     requires fresh { ⌜ now marks ≡ zeros (length (now marks)) ⌝ }
-    ensures { λ r. ⌜ Shows [] (now (marks .exit)) r (ranks.resolve (tableOf (now (rows .entry)) (now (refs .entry)) (length (now (marks .entry))))) ⌝ }
+    ensures { λ r. ⌜ Shows [] (now (marks .exit)) r
+        (ranks.resolve (tableOf (now (rows .entry)) (now (refs .entry)) (length (now (marks .entry))))) ⌝ }
 {
     let n = marks.len();
     let mut i = 0;
@@ -140,7 +145,8 @@ fn resolve_upward(rows: &[u64], refs: &[u64], marks: &mut [u64]) -> Walked
 fn resolve_marks(rows: &[u64], refs: &[u64], marks: &mut [u64]) -> Resolution
     requires few { ⌜ length (now marks) ≤ maxEntries ⌝ }
     requires fresh { ⌜ now marks ≡ zeros (length (now marks)) ⌝ }
-    ensures { λ r. ⌜ Resolves (now (rows .entry)) (now (refs .entry)) (length (now (marks .entry))) (length (now (marks .entry))) r (now (marks .exit)) ⌝ }
+    ensures { λ r. ⌜ Resolves (now (rows .entry)) (now (refs .entry)) (length (now (marks .entry))) (length (now (marks .entry)))
+        r (now (marks .exit)) ⌝ }
 {
     match resolve_upward(rows, refs, marks) {
         Walked::Ranked(_) => {
@@ -157,7 +163,9 @@ fn resolve_marks(rows: &[u64], refs: &[u64], marks: &mut [u64]) -> Resolution
 
 // The second pass over the first `count` entries, as far as rows, witness and 4,096 reach.
 pub fn resolve(rows: &[u64], refs: &[u64], count: usize, witness: &mut [u64]) -> Resolution
-    ensures { λ r. ⌜ Resolves (now (rows .entry)) (now (refs .entry)) (entriesOf count (length (now (rows .entry))) (length (now (witness .entry)))) (length (now (witness .entry))) r (now (witness .exit)) ⌝ }
+    ensures { λ r. ⌜ Resolves (now (rows .entry)) (now (refs .entry))
+        (entriesOf count (length (now (rows .entry))) (length (now (witness .entry)))) (length (now (witness .entry)))
+        r (now (witness .exit)) ⌝ }
 {
     clear_words(witness);
     let n = entries(count, rows.len(), witness.len());

@@ -29,7 +29,8 @@ module _ (rows ranks : List ℕ) (n e i to : ℕ) where
   unfolding refers
   refers-past h = rw (le-ltb to n h)
 
-  pub refers-in : to < n → (from other : Row) (place : Place) (stands counts : Bool) (low high : ℕ) → from ≡ rowAt rows e → other ≡ rowAt rows to
+  pub refers-in : to < n → (from other : Row) (place : Place) (stands counts : Bool) (low high : ℕ) → from ≡ rowAt rows e
+      → other ≡ rowAt rows to
       → place ≡ placeAt (from .kind) i → stands ≡ allowed (notAllowed place) (other .kind) → counts ≡ counted from other
       → low ≡ getD ranks to 0 → high ≡ getD ranks e 0 → stands && (not counts || ltb low high) ≡ refers rows ranks n e i to
   unfolding refers
@@ -75,7 +76,8 @@ module _ (rows : List ℕ) (e : ℕ) (row : Row) (is-row : row ≡ rowAt rows e)
       rw (first, count) h
 
   module _ (refs ranks : List ℕ) (n : ℕ) (ok : Bool) (is-ok : ok ≡ isIntegerWidth (row .number)) where
-    wide : (b : Bool) → eqb (row .kind) integer && not ok ≡ b → eqb (rowAt rows e .kind) integer && not (isIntegerWidth (rowAt rows e .number)) ≡ b
+    wide : (b : Bool) → eqb (row .kind) integer && not ok ≡ b → eqb (rowAt rows e .kind) integer && not
+        (isIntegerWidth (rowAt rows e .number)) ≡ b
     wide b h =
         let kind = ap (λ (x : Row). x .kind) is-row in
         let number = ap (λ (x : Row). x .number) is-row in
@@ -85,7 +87,8 @@ module _ (rows : List ℕ) (e : ℕ) (row : Row) (is-row : row ≡ rowAt rows e)
     lawful-width h = rw (wide true h)
 
     pub lawful-refs : (a : Bool) → eqb (row .kind) integer && not ok ≡ false
-        → a ≡ everyFrom (refers rows ranks n e) 0 (take (row .first + row .count - row .first) (drop (row .first) refs)) → a ≡ lawful rows refs ranks n e
+        → a ≡ everyFrom (refers rows ranks n e) 0 (take (row .first + row .count - row .first) (drop (row .first) refs))
+        → a ≡ lawful rows refs ranks n e
     lawful-refs a h is =
         let long : row .first + row .count - row .first ≡ row .count = omega arith in
         let first = ap (λ (x : Row). x .first) is-row in
@@ -93,7 +96,8 @@ module _ (rows : List ℕ) (e : ℕ) (row : Row) (is-row : row ≡ rowAt rows e)
         rw (wide false h) (rw (long, first, count) at is)
 
 -- a stretch that is placed stays inside its buffer, wherever its row says that it starts
-placed-fits : (place count fill room : ℕ) → fill ≤ room → placed place count fill room ≡ true → (place + count ≤ room) × (fill + count ≤ room)
+placed-fits : (place count fill room : ℕ) → fill ≤ room → placed place count fill room ≡ true
+    → (place + count ≤ room) × (fill + count ≤ room)
 placed-fits place count fill room u h =
     let p = and-true (eqb place (placeOf count fill)) (leb count (room - fill)) h in
     go count (eqb-true place (placeOf count fill) (p .0)) (leb-true count (room - fill) (p .1))
@@ -108,7 +112,8 @@ pub record Fits (rows : List ℕ) (words bytes e r k : ℕ) : Type 0 where
   pub refs : r + rowAt rows e .count ≤ words
   pub names : k + rowAt rows e .len ≤ bytes
 
-pub rowOk-fits : (rows : List ℕ) (words bytes e r k : ℕ) → r ≤ words → k ≤ bytes → rowOk rows words bytes e r k ≡ true → Fits rows words bytes e r k
+pub rowOk-fits : (rows : List ℕ) (words bytes e r k : ℕ) → r ≤ words → k ≤ bytes → rowOk rows words bytes e r k ≡ true
+    → Fits rows words bytes e r k
 rowOk-fits rows words bytes e r k u v h =
     let q = and-true (formed (rowAt rows e)) _ h in
     let p = and-true (placed (rowAt rows e .first) (rowAt rows e .count) r words) _ (q .1) in
@@ -120,7 +125,8 @@ module _ (rows refs : List ℕ) (bytes : ℕ) (ranks : List ℕ) (n e r k : ℕ)
   pub entryOk-row : rowOk rows (length refs) bytes e r k ≡ false → false ≡ entryOk rows refs bytes ranks n e r k
   entryOk-row h = rw h
 
-  pub entryOk-lawful : (a : Bool) → rowOk rows (length refs) bytes e r k ≡ true → a ≡ lawful rows refs ranks n e → a ≡ entryOk rows refs bytes ranks n e r k
+  pub entryOk-lawful : (a : Bool) → rowOk rows (length refs) bytes e r k ≡ true → a ≡ lawful rows refs ranks n e
+      → a ≡ entryOk rows refs bytes ranks n e r k
   entryOk-lawful a h is = rw h is
 
 -- the loop: what is left of the rows answers what all of them answer
@@ -132,13 +138,19 @@ pub record Checking (rows refs : List ℕ) (bytes : ℕ) (ranks : List ℕ) (n e
 
 module _ (rows refs : List ℕ) (bytes : ℕ) (ranks : List ℕ) (n : ℕ) where
   pub Checking-first : Checking rows refs bytes ranks n 0 0 0
-  Checking-first = let z : n - 0 ≡ n = omega arith in record { within = omega arith; refs-used = omega arith; names-used = omega arith; rest = rw z }
+  Checking-first = let z : n - 0 ≡ n = omega arith in record {
+    within = omega arith;
+    refs-used = omega arith;
+    names-used = omega arith;
+    rest = rw z;
+  }
 
   module _ (e r k : ℕ) (h : Checking rows refs bytes ranks n e r k) where
     module _ (ok : entryOk rows refs bytes ranks n e r k ≡ true) (row : Row) (is-row : row ≡ rowAt rows e) where
       pub Checking-fits : (r + row .count ≤ length refs) × (k + row .len ≤ bytes)
       Checking-fits =
-          let f = rowOk-fits rows (length refs) bytes e r k (h .refs-used) (h .names-used) (and-true (rowOk rows (length refs) bytes e r k) _ ok .0) in
+          let f = rowOk-fits rows (length refs) bytes e r k (h .refs-used) (h .names-used)
+          (and-true (rowOk rows (length refs) bytes e r k) _ ok .0) in
           let count = ap (λ (x : Row). x .count) is-row in
           let len = ap (λ (x : Row). x .len) is-row in
           (rw count (f .refs), rw len (f .names))

@@ -17,21 +17,26 @@ use Rattle.spec.specs.declared.spec.Spec.{Spec}
 use Rattle.datalayout.specs.declared.apply.Applied.{Applied}
 use Rattle.datalayout.specs.Apply.{doneWith, refusedBy, typeApplied, pointerApplied, specApplied, applied}
 
-module _ (layout : DataLayout) (row : TypeAlignSpec) (updated : UpdatedTypes) (is : updated ≡ updatedTypes (layout .«type_alignments») row) where
+module _ (layout : DataLayout) (row : TypeAlignSpec) (updated : UpdatedTypes)
+    (is : updated ≡ updatedTypes (layout .«type_alignments») row) where
   pub typeApplied-full : updated .full ≡ true → refusedBy ListFull layout ≡ typeApplied layout row
   typeApplied-full full = rw (← is, full)
 
-  pub typeApplied-put : updated .full ≡ false → (next : DataLayout) → next ≡ withTypes layout (updated .specs) → doneWith next ≡ typeApplied layout row
+  pub typeApplied-put : updated .full ≡ false → (next : DataLayout) → next ≡ withTypes layout (updated .specs) → doneWith next
+      ≡ typeApplied layout row
   typeApplied-put full next with-it = rw (← is, full, with-it)
 
-module _ (layout : DataLayout) (row : PointerAlignSpec) (updated : UpdatedPointers) (is : updated ≡ updatedPointers (layout .«pointer_alignments») row) where
+module _ (layout : DataLayout) (row : PointerAlignSpec) (updated : UpdatedPointers)
+    (is : updated ≡ updatedPointers (layout .«pointer_alignments») row) where
   pub pointerApplied-full : updated .full ≡ true → refusedBy ListFull layout ≡ pointerApplied layout row
   pointerApplied-full full = rw (← is, full)
 
-  pub pointerApplied-put : updated .full ≡ false → (next : DataLayout) → next ≡ withPointers layout (updated .specs) → doneWith next ≡ pointerApplied layout row
+  pub pointerApplied-put : updated .full ≡ false → (next : DataLayout) → next ≡ withPointers layout (updated .specs)
+      → doneWith next ≡ pointerApplied layout row
   pointerApplied-put full next with-it = rw (← is, full, with-it)
 
 -- a spec that is known by its case
-pub applied-of-case : (layout : DataLayout) (read : Read) (said : Spec) → read .spec ≡ said → specApplied layout (read .numbers) said ≡ applied layout read
+pub applied-of-case : (layout : DataLayout) (read : Read) (said : Spec) → read .spec ≡ said
+    → specApplied layout (read .numbers) said ≡ applied layout read
 unfolding applied
 applied-of-case layout read said is = rw is

@@ -52,10 +52,12 @@ module _ (layout : DataLayout) (s : List ℕ) (at end : ℕ) (in-s : at ≤ leng
   unfolding specsFrom
   specsFrom-last done last = rw (partsOf-last dash s at end in-s is last, ← made, done)
 
-  pub specsFrom-more : next .outcome ≡ Done → (end ≡ length s → ⊥) → rest ≡ specsFrom (next .layout) (end + 1) (partsOf dash (drop (end + 1) s))
+  pub specsFrom-more : next .outcome ≡ Done → (end ≡ length s → ⊥) → rest
+      ≡ specsFrom (next .layout) (end + 1) (partsOf dash (drop (end + 1) s))
   unfolding specsFrom
   specsFrom-more done more =
       let bound = endOf-bound dash s at end in-s is in
-      let size : length (take (end - at) (drop at s)) ≡ end - at = length-take-le (end - at) (drop at s) (omega (arith, length-drop at s)) in
+      let size : length (take (end - at) (drop at s))
+      ≡ end - at = length-take-le (end - at) (drop at s) (omega (arith, length-drop at s)) in
       let place : at + (end - at) ≡ end = omega arith in
       rw (partsOf-more dash s at end in-s is more, ← made, done, size, place)

@@ -86,7 +86,8 @@ module _ (b : ℕ) (s : List ℕ) (from end : ℕ) (in-s : from ≤ length s) (i
       rw (cut, next, ← drop-drop) (first b (drop from s) (omega (arith, endOf-bound, length-drop from s)))
 
   -- in either case the part is the first
-  pub partsOf-head : (P : List (List ℕ) → Type 0) → ((more : List (List ℕ)) → P (take (end - from) (drop from s) ∷ more)) → P (partsOf b (drop from s))
+  pub partsOf-head : (P : List (List ℕ) → Type 0) → ((more : List (List ℕ)) → P (take (end - from) (drop from s) ∷ more))
+      → P (partsOf b (drop from s))
   partsOf-head P h =
       ⊎-elim
       (λ last. rw (partsOf-last last) (h []))

@@ -38,7 +38,8 @@ module _ {A : Type 0} (same : A → A → Bool) (new : A) where
   placed-appended [] h = refl
   placed-appended (row ∷ rows) h = go (same new row) h (λ e. placed-appended rows e)
     where
-      go : (b : Bool) → cond b 0 (suc (placeOf same new rows)) ≡ suc (length rows) → (placeOf same new rows ≡ length rows → placed same new rows ≡ rows ++ new ∷ [])
+      go : (b : Bool) → cond b 0 (suc (placeOf same new rows)) ≡ suc (length rows)
+          → (placeOf same new rows ≡ length rows → placed same new rows ≡ rows ++ new ∷ [])
           → cond b (new ∷ rows) (row ∷ placed same new rows) ≡ row ∷ (rows ++ new ∷ [])
       go true e later = absurd (omega arith)
       go false e later = ap (λ (l : List A). row ∷ l) (later (omega arith))
@@ -48,7 +49,8 @@ module _ {A : Type 0} (same : A → A → Bool) (new : A) where
   placed-replaced [] h = absurd (omega arith)
   placed-replaced (row ∷ rows) h = go (same new row) h (λ e. placed-replaced rows e)
     where
-      go : (b : Bool) → cond b 0 (suc (placeOf same new rows)) < suc (length rows) → (placeOf same new rows < length rows → placed same new rows ≡ set rows (placeOf same new rows) new)
+      go : (b : Bool) → cond b 0 (suc (placeOf same new rows)) < suc (length rows)
+          → (placeOf same new rows < length rows → placed same new rows ≡ set rows (placeOf same new rows) new)
           → cond b (new ∷ rows) (row ∷ placed same new rows) ≡ set (row ∷ rows) (cond b 0 (suc (placeOf same new rows))) new
       go true e later = refl
       go false e later = ap (λ (l : List A). row ∷ l) (later (omega arith))

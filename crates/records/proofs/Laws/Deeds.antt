@@ -11,6 +11,7 @@ use lib.Dec.{eqb, ltb}
 use lib.ListN.{length, take, drop, length-append, length-drop}
 use lib.Seq.{length-take-le}
 use borrow.Author.Tests.{ltb-false, eqb-true}
+use Rattle.laws.proofs.Told.{no, or-told}
 use Rattle.kinds.specs.Kinds.{struct}
 use Rattle.table.specs.Entries.{Name, unnamed, called, Form, Entry, bytesOf}
 use Rattle.table.specs.Rows.{wordsOf, rowOf, rowsOf, refsOf, namesOf}
@@ -44,14 +45,16 @@ deed-fits (says.Adds h from) f n le kept = record { kept-le = omega arith; insid
 deed-fits (says.Opaque h from) f n le kept = by (eqb (f .last .kind) struct) (f .last .named)
   where
     by : (a b : Bool)
-        → FitsDeed (cond a (cond b (deed.Refuse AlreadyFilled) (deed.Put (inLast h (f .last .count) (f .last .count) 0 0 f))) (deed.Put (behind h from f))) f n
+        → FitsDeed (cond a (cond b (deed.Refuse AlreadyFilled) (deed.Put (inLast h (f .last .count) (f .last .count) 0 0 f)))
+        (deed.Put (behind h from f))) f n
     by true true = omega arith
     by true false = record { kept-le = kept; inside = omega arith }
     by false b = record { kept-le = omega arith; inside = le }
 deed-fits (says.Named h from) f n le kept = by (eqb (f .last .kind) struct) (f .last .named || ltb 0 (f .last .count))
   where
     by : (a b : Bool)
-        → FitsDeed (cond a (cond b (deed.Refuse AlreadyFilled) (deed.Put (inLast h (h .count) 0 from (h .count) f))) (deed.Put (behind h from f))) f n
+        → FitsDeed (cond a (cond b (deed.Refuse AlreadyFilled) (deed.Put (inLast h (h .count) 0 from (h .count) f)))
+        (deed.Put (behind h from f))) f n
     by true true = omega arith
     by true false = record { kept-le = omega arith; inside = le }
     by false b = record { kept-le = omega arith; inside = le }
@@ -66,7 +69,7 @@ same-head a b p q r s t = rw (← p, ← q, ← r, ← s, ← t)
 
 -- the last entry, apart from those before it
 last-apart : (es : List Entry) → isStruct (lastForm es) ≡ true → es ≡ frontOf es ++ (entryOf (lastForm es) ∷ [])
-last-apart [] e = absurd (let z : _≡_ {A = ℕ} 0 1 = cc in omega arith)
+last-apart [] e = no (cc)
 last-apart (x ∷ []) e = refl
 last-apart (x ∷ y ∷ es) e = ap (λ (l : List Entry). x ∷ l) (last-apart (y ∷ es) e)
 
@@ -78,11 +81,7 @@ last-refs-le (x ∷ y ∷ es) = let le = last-refs-le (y ∷ es) in simp length-
 
 bytes-unnamed : (n : Name) → isNamed n ≡ false → bytesOf n ≡ []
 bytes-unnamed unnamed e = refl
-bytes-unnamed (called bytes) e = absurd (let z : _≡_ {A = ℕ} 0 1 = cc in omega arith)
-
-or-false : (a b : Bool) → a || b ≡ false → (a ≡ false) × (b ≡ false)
-or-false false b e = (refl, e)
-or-false true b e = absurd (let z : _≡_ {A = ℕ} 0 1 = cc in omega arith)
+bytes-unnamed (called bytes) e = no (cc)
 
 none-of-length : (l : List ℕ) → ltb 0 (length l) ≡ false → l ≡ []
 none-of-length [] e = refl
@@ -121,8 +120,10 @@ module _ (t : Table) (fs : List ℕ) where
     }
 
   module _ (is : isStruct (lastForm (t .entries)) ≡ true) (plain : isNamed (lastForm (t .entries) .name) ≡ false) where
-    last-puts : (p : Put) (x : Form) (kept : List ℕ) → p .head ≡ headOf x → p .row ≡ length (t .entries) - 1 → length kept ≡ p .kept → last .refs ≡ kept
-        → x .refs ≡ kept ++ take (p .more) (drop (p .from) fs) → x .name ≡ nameIf (p .head .named) (t .pending) → Puts t fs p (frontOf (t .entries)) (entryOf x)
+    last-puts : (p : Put) (x : Form) (kept : List ℕ) → p .head ≡ headOf x → p .row ≡ length (t .entries) - 1 → length kept ≡ p .kept
+        → last .refs ≡ kept
+        → x .refs ≡ kept ++ take (p .more) (drop (p .from) fs) → x .name ≡ nameIf (p .head .named) (t .pending)
+        → Puts t fs p (frontOf (t .entries)) (entryOf x)
     last-puts p x kept head row kept-is kept-are refs name =
         let es : t .entries ≡ frontOf (t .entries) ++ (entryOf last ∷ []) = last-apart (t .entries) is in
         let fr = frontOf (t .entries) in
@@ -144,14 +145,16 @@ module _ (t : Table) (fs : List ℕ) where
       abbrev says-form : Form
       says-form = formOf (t .pending) fs h from
 
-      opaque-puts : Puts t fs (inLast h (length (last .refs)) (length (last .refs)) 0 0 (filledOf t)) (frontOf (t .entries)) (entryOf (named (says-form .name) last))
+      opaque-puts : Puts t fs (inLast h (length (last .refs)) (length (last .refs)) 0 0 (filledOf t)) (frontOf (t .entries))
+          (entryOf (named (says-form .name) last))
       opaque-puts =
           let p = inLast h (length (last .refs)) (length (last .refs)) 0 0 (filledOf t) in
           let x = named (says-form .name) last in
           last-puts p x (last .refs) (same-head (p .head) (headOf x) refl refl refl refl (isNamed-nameIf (h .named) (t .pending)))
           refl refl refl (sym (append-nil (last .refs))) refl
 
-      named-puts : last .refs ≡ [] → Puts t fs (inLast h (h .count) 0 from (h .count) (filledOf t)) (frontOf (t .entries)) (entryOf (refilled says-form last))
+      named-puts : last .refs ≡ []
+          → Puts t fs (inLast h (h .count) 0 from (h .count) (filledOf t)) (frontOf (t .entries)) (entryOf (refilled says-form last))
       named-puts none =
           let p = inLast h (h .count) 0 from (h .count) (filledOf t) in
           let x = refilled says-form last in
@@ -165,19 +168,31 @@ module _ (t : Table) (fs : List ℕ) where
   deed-does (says.Opaque h from) le = by (isStruct last) (isNamed (last .name)) refl refl
     where
       by : (a b : Bool) → isStruct last ≡ a → isNamed (last .name) ≡ b
-          → Does (cond a (cond b (deed.Refuse AlreadyFilled) (deed.Put (inLast h (length (last .refs)) (length (last .refs)) 0 0 (filledOf t)))) (deed.Put (behind h from (filledOf t))))
-          (cond a (cond b (table.refuses AlreadyFilled) (table.puts (frontOf (t .entries)) (entryOf (named (formOf (t .pending) fs h from .name) last)))) (table.puts (t .entries) (entryOf (formOf (t .pending) fs h from))))
+          → Does (cond a (cond b (deed.Refuse AlreadyFilled) (deed.Put (inLast h (length (last .refs)) (length (last .refs)) 0 0
+          (filledOf t)))) (deed.Put (behind h from (filledOf t))))
+          (cond a (cond b (table.refuses AlreadyFilled) (table.puts (frontOf (t .entries))
+          (entryOf (named (formOf (t .pending) fs h from .name) last))))
+          (table.puts (t .entries) (entryOf (formOf (t .pending) fs h from))))
       by true true p q = refl
-      by true false p q = (frontOf (t .entries), entryOf (named (formOf (t .pending) fs h from .name) last), refl, opaque-puts p q h from le)
+      by true false p q = (
+        frontOf (t .entries),
+        entryOf (named (formOf (t .pending) fs h from .name) last),
+        refl,
+        opaque-puts p q h from
+            le,
+      )
       by false b p q = (t .entries, entryOf (formOf (t .pending) fs h from), refl, behind-puts h from le)
   deed-does (says.Named h from) le = by (isStruct last) (isNamed (last .name) || ltb 0 (length (last .refs))) refl refl
     where
       by : (a b : Bool) → isStruct last ≡ a → isNamed (last .name) || ltb 0 (length (last .refs)) ≡ b
-          → Does (cond a (cond b (deed.Refuse AlreadyFilled) (deed.Put (inLast h (h .count) 0 from (h .count) (filledOf t)))) (deed.Put (behind h from (filledOf t))))
-          (cond a (cond b (table.refuses AlreadyFilled) (table.puts (frontOf (t .entries)) (entryOf (refilled (formOf (t .pending) fs h from) last)))) (table.puts (t .entries) (entryOf (formOf (t .pending) fs h from))))
+          → Does (cond a (cond b (deed.Refuse AlreadyFilled) (deed.Put (inLast h (h .count) 0 from (h .count) (filledOf t))))
+          (deed.Put (behind h from (filledOf t))))
+          (cond a (cond b (table.refuses AlreadyFilled) (table.puts (frontOf (t .entries))
+          (entryOf (refilled (formOf (t .pending) fs h from) last))))
+          (table.puts (t .entries) (entryOf (formOf (t .pending) fs h from))))
       by true true p q = refl
       by true false p q =
-          let none = or-false (isNamed (last .name)) (ltb 0 (length (last .refs))) q in (
+          let none = or-told (isNamed (last .name)) (ltb 0 (length (last .refs))) q in (
             frontOf (t .entries),
             entryOf (refilled (formOf (t .pending) fs h from) last),
             refl,

@@ -7,6 +7,7 @@ use Prim.Native.Nat.{ℕ, _+_, _-_, _*_, _≤_, _<_}
 use native.Mathlib.Omega.{arith}
 use lib.Dec.{eqb}
 use lib.ListN.{length, take, drop}
+use Rattle.laws.proofs.Told.{no}
 use Rattle.laws.proofs.Rests.{rest-part, rest-none}
 use Rattle.table.specs.Buffers.{over, zeros, padded}
 use Rattle.table.specs.Rows.{rowWords, rowsOf, refsOf, namesOf}
@@ -32,9 +33,6 @@ use Rattle.records.specs.Records.{Ran, whole, bad, run}
 use Rattle.records.specs.Read.{Result, taken, refused, byEntries, byCount, byFrame, reading, Output, output, shown}
 use Rattle.records.specs.Values.{filledOf}
 use Rattle.records.specs.Held.{Buffers, Holds, Passed, openingOf, keepNone, keepAll, Left}
-
-no : {X : Type 0} → _≡_ {A = ℕ} 0 1 → X
-no e = absurd (omega arith)
 
 opening-bad : (f : Frame) (n : Stated) (a : Answer) (r : Ran) → openingOf f n ≡ Bad a → byFrame f (byCount n r) ≡ refused a
 opening-bad (CutAt head) n a r e = cc
@@ -65,7 +63,8 @@ end-fits b r e x y z passed f q =
     let m : f .entries ≡ length (u .0 .entries) = ap (λ (v : Filled). v .entries) (u .2) in
     omega (arith, u .3 .rows-fit)
 
-module _ (room : Room) (ws : List ℕ) (b : Buffers) (k : Kept) (x y z : List ℕ) (o : Opening) (is-o : o ≡ openingOf (framed 0 (stream ws)) (statedBy (numEntries (stream ws)))) where
+module _ (room : Room) (ws : List ℕ) (b : Buffers) (k : Kept) (x y z : List ℕ) (o : Opening)
+    (is-o : o ≡ openingOf (framed 0 (stream ws)) (statedBy (numEntries (stream ws)))) where
   pub Left-opening : (a : Answer) → o ≡ Bad a → k ≡ keepNone a → Left b (reading room ws) k x y z
   unfolding reading
   Left-opening a q e =
@@ -76,9 +75,11 @@ module _ (room : Room) (ws : List ℕ) (b : Buffers) (k : Kept) (x y z : List �
     unfolding reading
     fine = opening-fine (framed 0 (stream ws)) (statedBy (numEntries (stream ws))) n (run room 0 empty (stream ws)) (sym is-o ∙ q)
 
-    pub Left-record : (number : ℕ) (fault : Fault) → r ≡ AtRecord number fault → k ≡ keepNone (BadRecord number fault) → Left b (reading room ws) k x y z
+    pub Left-record : (number : ℕ) (fault : Fault) → r ≡ AtRecord number fault → k ≡ keepNone (BadRecord number fault)
+        → Left b (reading room ws) k x y z
     Left-record number fault p e =
-        let u : run room 0 empty (stream ws) ≡ bad number fault = Passed-record b (run room 0 empty (stream ws)) number fault x y z (rw p at passed) in
+        let u : run room 0 empty (stream ws) ≡ bad number fault =
+        Passed-record b (run room 0 empty (stream ws)) number fault x y z (rw p at passed) in
         rw (fine, u) e
 
     pub Left-end : (f : Filled) → r ≡ AtEnd f → k ≡ cond (eqb n (f .entries)) (keepAll f) (keepNone (CountDiffers n (f .entries)))
@@ -88,7 +89,8 @@ module _ (room : Room) (ws : List ℕ) (b : Buffers) (k : Kept) (x y z : List �
         let g = u .2 in
         rw (fine, u .1) (by (u .0) (u .3) (eqb n (length (u .0 .entries))) (rw g at e))
       where
-        by : (t : Table) → Holds b t x y z → (c : Bool) → k ≡ cond c (keepAll (filledOf t)) (keepNone (CountDiffers n (length (t .entries))))
+        by : (t : Table) → Holds b t x y z → (c : Bool)
+            → k ≡ cond c (keepAll (filledOf t)) (keepNone (CountDiffers n (length (t .entries))))
             → Left b (cond c (taken (t .entries)) (refused (CountDiffers n (length (t .entries))))) k x y z
         by t h true i = (t, refl, i, h)
         by t h false i = i
@@ -103,7 +105,8 @@ Left-fits b (refused a) k x y z h = rw h (omega arith, omega arith, omega arith)
 abbrev cleared : List ℕ → ℕ → List ℕ → List ℕ
 cleared l a last = take a l ++ (last ++ drop (length l - a) (drop a l))
 
-cleared-all : (l last : List ℕ) (n a : ℕ) → a ≡ 0 → length l ≡ n → last ≡ zeros (length (take (length l - a) (drop a l))) → cleared l a last ≡ zeros n
+cleared-all : (l last : List ℕ) (n a : ℕ) → a ≡ 0 → length l ≡ n → last ≡ zeros (length (take (length l - a) (drop a l)))
+    → cleared l a last ≡ zeros n
 cleared-all l last n a is-a len is =
     let e : length l - 0 ≡ length l = omega arith in
     rw (is, rest-none l a, rest-part l a, append-nil, is-a, len)
@@ -111,22 +114,27 @@ cleared-all l last n a is-a len is =
 same-output : (a a′ : Answer) (r r′ f f′ n n′ : List ℕ) → a ≡ a′ → r ≡ r′ → f ≡ f′ → n ≡ n′ → output a r f n ≡ output a′ r′ f′ n′
 same-output a a′ r r′ f f′ n n′ p q s u = rw (p, q, s, u)
 
-module _ (b : Buffers) (k : Kept) (x y z u v w : List ℕ) (lx : length x ≡ length (b .rows)) (ly : length y ≡ length (b .refs)) (lz : length z ≡ length (b .names))
+module _ (b : Buffers) (k : Kept) (x y z u v w : List ℕ) (lx : length x ≡ length (b .rows)) (ly : length y ≡ length (b .refs))
+    (lz : length z ≡ length (b .names))
     (is-u : u ≡ zeros (length (take (length x - k .rows) (drop (k .rows) x))))
     (is-v : v ≡ zeros (length (take (length y - k .refs) (drop (k .refs) y))))
     (is-w : w ≡ zeros (length (take (length z - k .names) (drop (k .names) z)))) where
   by-table : (t : Table) → k ≡ keepAll (filledOf t) → Holds b t x y z
-      → output (k .answer) (cleared x (k .rows) u) (cleared y (k .refs) v) (cleared z (k .names) w) ≡ shown (length (b .rows)) (length (b .refs)) (length (b .names)) (taken (t .entries))
+      → output (k .answer) (cleared x (k .rows) u) (cleared y (k .refs) v) (cleared z (k .names) w) ≡ shown (length (b .rows))
+      (length (b .refs)) (length (b .names)) (taken (t .entries))
   by-table t is H =
       let es = t .entries in
       let alone : (l m : List ℕ) → over l m ≡ over (l ++ []) m = λ l m. ap (λ (j : List ℕ). over j m) (sym (append-nil l)) in
       same-output _ _ _ _ _ _ _ _ (ap (λ (j : Kept). j .answer) is)
-      (padded-rest (rowsOf es) (b .rows) x u (k .rows) (ap (λ (j : Kept). j .rows) is ∙ sym (length-rowsOf es)) (omega (arith, length-rowsOf es, H .rows-fit)) [] (H .rows-are ∙ alone (rowsOf es) (b .rows)) is-u)
-      (padded-rest (refsOf es) (b .refs) y v (k .refs) (ap (λ (j : Kept). j .refs) is) (H .refs-fit) [] (H .refs-are ∙ alone (refsOf es) (b .refs)) is-v)
+      (padded-rest (rowsOf es) (b .rows) x u (k .rows) (ap (λ (j : Kept). j .rows) is ∙ sym (length-rowsOf es))
+      (omega (arith, length-rowsOf es, H .rows-fit)) [] (H .rows-are ∙ alone (rowsOf es) (b .rows)) is-u)
+      (padded-rest (refsOf es) (b .refs) y v (k .refs) (ap (λ (j : Kept). j .refs) is) (H .refs-fit) []
+      (H .refs-are ∙ alone (refsOf es) (b .refs)) is-v)
       (padded-rest (namesOf es) (b .names) z w (k .names) (ap (λ (j : Kept). j .names) is) (H .names-fit) (t .pending) (H .names-are) is-w)
 
   pub Left-shown : (r : Result) → Left b r k x y z
-      → output (k .answer) (cleared x (k .rows) u) (cleared y (k .refs) v) (cleared z (k .names) w) ≡ shown (length (b .rows)) (length (b .refs)) (length (b .names)) r
+      → output (k .answer) (cleared x (k .rows) u) (cleared y (k .refs) v) (cleared z (k .names) w) ≡ shown (length (b .rows))
+      (length (b .refs)) (length (b .names)) r
   Left-shown (taken es) h = let q = h .1 in by-table (h .0) (h .2) (h .3) ∙ rw q
   Left-shown (refused a) h =
       same-output _ _ _ _ _ _ _ _ (ap (λ (j : Kept). j .answer) h)

@@ -61,10 +61,12 @@ same-row : (r s : Row) → r .kind ≡ s .kind → r .number ≡ s .number → r
     → r .start ≡ s .start → r .len ≡ s .len → r .named ≡ s .named → r ≡ s
 same-row r s a b c d e f g h = rw (← a, ← b, ← c, ← d, ← e, ← f, ← g, ← h)
 
-pub same-filled : (a b : Filled) → a .entries ≡ b .entries → a .refs ≡ b .refs → a .taken ≡ b .taken → a .mark ≡ b .mark → a .last ≡ b .last → a ≡ b
+pub same-filled : (a b : Filled) → a .entries ≡ b .entries → a .refs ≡ b .refs → a .taken ≡ b .taken → a .mark ≡ b .mark → a .last ≡ b .last
+    → a ≡ b
 same-filled a b p q r s t = rw (← p, ← q, ← r, ← s, ← t)
 
-module _ (t : Table) (fs : List ℕ) (p : Put) (front : List Entry) (e : Entry) (P : Puts t fs p front e) (inside : p .from + p .more ≤ length fs) where
+module _ (t : Table) (fs : List ℕ) (p : Put) (front : List Entry) (e : Entry) (P : Puts t fs p front e)
+    (inside : p .from + p .more ≤ length fs) where
   abbrev added : List ℕ
   added = take (p .more) (drop (p .from) fs)
 
@@ -73,7 +75,8 @@ module _ (t : Table) (fs : List ℕ) (p : Put) (front : List Entry) (e : Entry) 
 
   pub refs-after : refsOf (front ++ (e ∷ [])) ≡ refsOf (t .entries) ++ take (p .more) (drop (p .from) fs)
   refs-after =
-      refsOf-snoc front e ∙ rw (P .refs-are, P .refs-were) (sym (append-assoc (refsOf front) (P .kept-refs) (take (p .more) (drop (p .from) fs))))
+      refsOf-snoc front e ∙ rw (P .refs-are, P .refs-were) (sym (append-assoc (refsOf front) (P .kept-refs)
+      (take (p .more) (drop (p .from) fs))))
 
   pub names-after : namesOf (front ++ (e ∷ [])) ≡ namesOf (t .entries) ++ bytesOf (nameIf (p .head .named) (t .pending))
   names-after = namesOf-snoc front e ∙ rw (P .name-is, P .names-were)
@@ -90,21 +93,35 @@ module _ (t : Table) (fs : List ℕ) (p : Put) (front : List Entry) (e : Entry) 
   row-after =
       let h : p .head ≡ headOf (e .form) = P .head-is in
       let count : p .head .count ≡ length (e .form .refs) = ap (λ (x : Head). x .count) h in
-      let place : length (refsOf (t .entries)) - p .kept ≡ length (refsOf front) = omega (arith, ap length (P .refs-were), length-append (refsOf front) (P .kept-refs), P .kept-is) in
+      let place : length (refsOf (t .entries)) - p .kept ≡ length (refsOf front) =
+      omega (arith, ap length (P .refs-were), length-append (refsOf front) (P .kept-refs), P .kept-is) in
       let taken : length (namesOf (t .entries)) ≡ length (namesOf front) = ap length (P .names-were) in
-      let len : endOf p (filledOf t) - length (namesOf (t .entries)) ≡ length (bytesOf (e .form .name)) = name-length (p .head .named) (t .pending) (length (namesOf (t .entries))) ∙ ap (λ (n : Name). length (bytesOf n)) (sym (P .name-is)) in
+      let len : endOf p (filledOf t) - length (namesOf (t .entries)) ≡ length (bytesOf (e .form .name)) =
+      name-length (p .head .named) (t .pending) (length (namesOf (t .entries))) ∙ ap (λ (n : Name). length (bytesOf n)) (sym (P .name-is))
+      in
       ap wordsOf (same-row (rowFor p (filledOf t)) (rowOf (length (refsOf front)) (length (namesOf front)) e)
       (ap (λ (x : Head). x .kind) h) (ap (λ (x : Head). x .number) h) (ap (λ (x : Head). x .flag) h)
       (rw (count, place)) count (rw (len, taken)) len (named-word (p .head .named) (t .pending) ∙ ap namedOf (sym (P .name-is))))
 
-  pub filled-after : grown p (filledOf t) ≡ filledOf (record { entries = front ++ (e ∷ []); pending = pendingAfter (e .form .name) (t .pending) })
+  pub filled-after : grown p (filledOf t) ≡ filledOf (record {
+    entries = front ++ (e ∷ []);
+    pending = pendingAfter (e .form .name)
+        (t .pending);
+  })
   filled-after =
       let n = length (namesOf (t .entries)) in
-      let mark : n + length (t .pending) ≡ length (namesOf (front ++ (e ∷ []))) + length (pendingAfter (e .form .name) (t .pending)) = ends-pending (p .head .named) (t .pending) n ∙ rw (names-count, ends (p .head .named) (t .pending) n, P .name-is) in
-      same-filled (grown p (filledOf t)) (filledOf (record { entries = front ++ (e ∷ []); pending = pendingAfter (e .form .name) (t .pending) }))
-      (omega (arith, length-append front (e ∷ []), P .row-is)) (sym refs-count) (sym names-count) mark (rw (lastForm-snoc front e) (P .head-is))
+      let mark : n + length (t .pending) ≡ length (namesOf (front ++ (e ∷ []))) + length (pendingAfter (e .form .name) (t .pending)) =
+      ends-pending (p .head .named) (t .pending) n ∙ rw (names-count, ends (p .head .named) (t .pending) n, P .name-is) in
+      same-filled (grown p (filledOf t)) (filledOf (record {
+        entries = front ++ (e ∷ []);
+        pending = pendingAfter (e .form .name)
+            (t .pending);
+      }))
+      (omega (arith, length-append front (e ∷ []), P .row-is)) (sym refs-count) (sym names-count) mark
+      (rw (lastForm-snoc front e) (P .head-is))
 
-  pub room-after : (entries : ℕ) (b : Buffers) → hasRoom p (filledOf t) entries (length (b .refs)) (length (b .names)) ≡ fits (roomIn entries b) (front ++ (e ∷ []))
+  pub room-after : (entries : ℕ) (b : Buffers)
+      → hasRoom p (filledOf t) entries (length (b .refs)) (length (b .names)) ≡ fits (roomIn entries b) (front ++ (e ∷ []))
   unfolding fits
   room-after entries b =
       let n : length (front ++ (e ∷ [])) ≡ p .row + 1 = omega (arith, length-append front (e ∷ []), P .row-is) in

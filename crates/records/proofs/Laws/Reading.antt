@@ -7,6 +7,7 @@ use Prim.Native.Nat.{ℕ, _+_, _-_, _*_, _≤_, _<_, _^_}
 use native.Mathlib.Omega.{arith}
 use lib.ListN.{length, take, drop}
 use lib.Seq.{take-nil}
+use Rattle.laws.proofs.Told.{no}
 use Rattle.table.specs.Buffers.{over}
 use Rattle.table.specs.Rows.{rowWords, rowsFrom, rowsOf, refsOf, namesOf}
 use Rattle.stream.specs.declared.Found.{Found}
@@ -50,25 +51,40 @@ Reading-first ws b entries = record {
   names-length = refl;
   read = empty;
   filled-is = refl;
-  held = record { rows-are = rw take-nil; refs-are = rw take-nil; names-are = rw take-nil; rows-fit = omega arith; refs-fit = omega arith; names-fit = omega arith };
+  held = record {
+    rows-are = rw take-nil;
+    refs-are = rw take-nil;
+    names-are = rw take-nil;
+    rows-fit = omega arith;
+    refs-fit = omega arith;
+    names-fit = omega arith;
+  };
   same = refl;
 }
 
 -- before any record the marks are 0
-pub none-filled : _≡_ {A = Filled} (record { entries = 0; refs = 0; taken = 0; mark = 0; last = record { kind = 0; number = 0; flag = 0; count = 0; named = false } }) (filledOf empty)
+pub none-filled : _≡_ {A = Filled} (record {
+  entries = 0;
+  refs = 0;
+  taken = 0;
+  mark = 0;
+  last =
+      record { kind = 0; number = 0; flag = 0; count = 0; named = false };
+}) (filledOf empty)
 unfolding refsOf namesOf
 none-filled = refl
 
 After-go : (b : Buffers) (o : Outcome) (f : Filled) (x y z : List ℕ) → After b o (Go f) x y z
     → (t : Table) × (o ≡ go t) × (f ≡ filledOf t) × Holds b t x y z
 After-go b (go t) f x y z h = (t, refl, cc, h .1)
-After-go b (stop fault) f x y z h = absurd (let w : _≡_ {A = ℕ} 0 1 = cc in omega arith)
+After-go b (stop fault) f x y z h = no (cc)
 
 After-stop : (b : Buffers) (o : Outcome) (fault : Fault) (x y z : List ℕ) → After b o (Stop fault) x y z → o ≡ stop fault
-After-stop b (go t) fault x y z h = let e : Stop fault ≡ Go (filledOf t) = h .0 in absurd (let w : _≡_ {A = ℕ} 0 1 = cc in omega arith)
+After-stop b (go t) fault x y z h = let e : Stop fault ≡ Go (filledOf t) = h .0 in no (cc)
 After-stop b (stop other) fault x y z h = cc
 
-module _ (ws : List ℕ) (b : Buffers) (entries at number : ℕ) (f : Filled) (rows refs names : List ℕ) (I : Reading ws b entries at number f rows refs names) (r : Found) (is : r ≡ recordAt ws at) where
+module _ (ws : List ℕ) (b : Buffers) (entries at number : ℕ) (f : Filled) (rows refs names : List ℕ)
+    (I : Reading ws b entries at number f rows refs names) (r : Found) (is : r ≡ recordAt ws at) where
   pub Reading-end : r ≡ End → Passed b (run (roomIn entries b) 0 empty (stream ws)) (AtEnd f) rows refs names
   unfolding run
   Reading-end q = rw (I .same, is-end ws at r is q) (ap AtEnd (I .filled-is), I .held)
@@ -96,31 +112,38 @@ module _ (ws : List ℕ) (b : Buffers) (entries at number : ℕ) (f : Filled) (r
           mark-fits = omega (arith, I .mark-le);
         }
 
-    one : (t : Table) (k : ℕ) → run (roomIn entries b) k t (stream (drop at ws)) ≡ onward (stepOf (roomIn entries b) t c (take (e - s) (drop s ws))) k (λ (u : Table). run (roomIn entries b) (k + 1) u (stream (drop e ws)))
+    one : (t : Table) (k : ℕ)
+        → run (roomIn entries b) k t (stream (drop at ws)) ≡ onward (stepOf (roomIn entries b) t c (take (e - s) (drop s ws))) k
+        (λ (u : Table). run (roomIn entries b) (k + 1) u (stream (drop e ws)))
     unfolding run
     one t k = ap (run (roomIn entries b) k t) (is-record ws at r is c s e q)
 
-    module _ (step : Step) (x y z : List ℕ) (after : After b (stepOf (roomIn entries b) (I .read) c (take (e - s) (drop s ws))) step x y z) where
-      pub Reading-stop : (fault : Fault) → step ≡ Stop fault → Passed b (run (roomIn entries b) 0 empty (stream ws)) (AtRecord number fault) x y z
-      Reading-stop fault p =
-          let o : stepOf (roomIn entries b) (I .read) c (take (e - s) (drop s ws)) ≡ stop fault = After-stop b _ fault x y z (rw p at after) in
-          rw (I .same, one (I .read) number, o)
+    module _ (step : Step) (x y z : List ℕ) (after : After b (stepOf (roomIn entries b) (I .read) c (take (e - s) (drop s ws))) step x y z)
+      where
+        pub Reading-stop : (fault : Fault) → step ≡ Stop fault
+            → Passed b (run (roomIn entries b) 0 empty (stream ws)) (AtRecord number fault) x y z
+        Reading-stop fault p =
+            let o : stepOf (roomIn entries b) (I .read) c (take (e - s) (drop s ws)) ≡ stop fault =
+            After-stop b _ fault x y z (rw p at after) in
+            rw (I .same, one (I .read) number, o)
 
-      pub Reading-more : (g : Filled) → step ≡ Go g → markOf step ≤ f .mark + length (take (e - s) (drop s ws)) → Reading ws b entries e (number + 1) g x y z
-      Reading-more g p le =
-          let l = lies ws at r is c s e q in
-          let n = length-fields ws at r is c s e q in
-          let u = After-go b (stepOf (roomIn entries b) (I .read) c (take (e - s) (drop s ws))) g x y z (rw p at after) in
-          let m : g .mark ≤ f .mark + length (take (e - s) (drop s ws)) = rw p at le in
-          record {
-            at-le = l .2;
-            number-le = omega (arith, I .number-le);
-            mark-le = omega (arith, I .mark-le);
-            rows-length = length-rows b (u .0) x y z (u .3);
-            refs-length = length-refs b (u .0) x y z (u .3);
-            names-length = length-names b (u .0) x y z (u .3);
-            read = u .0;
-            filled-is = u .2;
-            held = u .3;
-            same = I .same ∙ one (I .read) number ∙ ap (λ (o : Outcome). onward o number (λ (v : Table). run (roomIn entries b) (number + 1) v (stream (drop e ws)))) (u .1);
-          }
+        pub Reading-more : (g : Filled) → step ≡ Go g → markOf step ≤ f .mark + length (take (e - s) (drop s ws))
+            → Reading ws b entries e (number + 1) g x y z
+        Reading-more g p le =
+            let l = lies ws at r is c s e q in
+            let n = length-fields ws at r is c s e q in
+            let u = After-go b (stepOf (roomIn entries b) (I .read) c (take (e - s) (drop s ws))) g x y z (rw p at after) in
+            let m : g .mark ≤ f .mark + length (take (e - s) (drop s ws)) = rw p at le in
+            record {
+              at-le = l .2;
+              number-le = omega (arith, I .number-le);
+              mark-le = omega (arith, I .mark-le);
+              rows-length = length-rows b (u .0) x y z (u .3);
+              refs-length = length-refs b (u .0) x y z (u .3);
+              names-length = length-names b (u .0) x y z (u .3);
+              read = u .0;
+              filled-is = u .2;
+              held = u .3;
+              same = I .same ∙ one (I .read) number ∙ ap (λ (o : Outcome). onward o number
+                  (λ (v : Table). run (roomIn entries b) (number + 1) v (stream (drop e ws)))) (u .1);
+            }

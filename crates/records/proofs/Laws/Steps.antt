@@ -7,6 +7,7 @@ use Prim.Native.Nat.{ℕ, _≤_, _<_}
 use native.Mathlib.Omega.{arith}
 use lib.Dec.{T, eqb, ltb}
 use lib.ListN.{length, getD}
+use Rattle.laws.proofs.Told.{no, T-of}
 use Rattle.kinds.specs.Kinds.{struct}
 use Rattle.table.specs.Buffers.{lowBytes}
 use Rattle.table.specs.Entries.{Entry}
@@ -31,25 +32,25 @@ use Rattle.records.proofs.Laws.Deeds.{FitsDeed, deed-fits, Does, deed-d
 use Rattle.records.proofs.Laws.Turn.{pending-is}
 
 two-ways : (a b : Bool) (fault : Fault) (p q : put.Put) → cond a (cond b (Refuse fault) (Put p)) (Put q) ≡ Pend → ⊥
-two-ways true true fault p q e = let z : _≡_ {A = ℕ} 0 1 = cc in omega arith
-two-ways true false fault p q e = let z : _≡_ {A = ℕ} 0 1 = cc in omega arith
-two-ways false b fault p q e = let z : _≡_ {A = ℕ} 0 1 = cc in omega arith
+two-ways true true fault p q e = no (cc)
+two-ways true false fault p q e = no (cc)
+two-ways false b fault p q e = no (cc)
 
 name-of-pend : (s : Shape) (f : Filled) → deedBy s f ≡ Pend → s ≡ says.Name
-name-of-pend says.Nothing f e = absurd (let z : _≡_ {A = ℕ} 0 1 = cc in omega arith)
+name-of-pend says.Nothing f e = no (cc)
 name-of-pend says.Name f e = refl
-name-of-pend (says.Adds h from) f e = absurd (let z : _≡_ {A = ℕ} 0 1 = cc in omega arith)
+name-of-pend (says.Adds h from) f e = no (cc)
 name-of-pend (says.Opaque h from) f e = absurd (two-ways (eqb (f .last .kind) struct) (f .last .named) _ _ _ e)
 name-of-pend (says.Named h from) f e = absurd (two-ways (eqb (f .last .kind) struct) (f .last .named || ltb 0 (f .last .count)) _ _ _ e)
-name-of-pend (says.Refused fault) f e = absurd (let z : _≡_ {A = ℕ} 0 1 = cc in omega arith)
+name-of-pend (says.Refused fault) f e = no (cc)
 
-T-of : (b : Bool) → b ≡ true → T b
-T-of b e = rw e tt
-
-module _ (code : ℕ) (fs : List ℕ) (f : Filled) (s : Shape) (is-s : s ≡ shapeIn code fs (ltb (f .taken) (f .mark))) (d : Deed) (is-d : d ≡ deedBy s f) where
+module _ (code : ℕ) (fs : List ℕ) (f : Filled) (s : Shape) (is-s : s ≡ shapeIn code fs (ltb (f .taken) (f .mark))) (d : Deed)
+    (is-d : d ≡ deedBy s f) where
   pub put-fits : (p : put.Put) → d ≡ Put p → f .last .count ≤ f .refs → Fits p f (length fs)
   put-fits p q kept =
-      let all : FitsDeed d f (length fs) = rw (is-d, is-s) (deed-fits (shapeIn code fs (ltb (f .taken) (f .mark))) f (length fs) (shapeIn-inside code fs (ltb (f .taken) (f .mark))) kept) in
+      let all : FitsDeed d f (length fs) =
+      rw (is-d, is-s) (deed-fits (shapeIn code fs (ltb (f .taken) (f .mark))) f (length fs)
+      (shapeIn-inside code fs (ltb (f .taken) (f .mark))) kept) in
       rw q at all
 
   pub pend-bytes : d ≡ Pend → lowBytes fs ≡ fs

@@ -26,7 +26,8 @@ use Rattle.records.specs.Values.{filledOf, endOf, hasRoom, rowFor, grown
 use Rattle.records.specs.Held.{Buffers, roomIn, Holds, After}
 use Rattle.records.specs.Putting.{Puts}
 use Rattle.records.proofs.Laws.Values.{room-told}
-use Rattle.records.proofs.Laws.Putting.{names-join, same-filled, refs-after, names-after, refs-count, names-count, row-after, filled-after, room-after}
+use Rattle.records.proofs.Laws.Putting.{names-join, same-filled, refs-after, names-after, refs-count, names-count, row-after}
+use Rattle.records.proofs.Laws.Putting.{filled-after, room-after}
 
 pub pending-is : (f : Filled) (t : Table) → f ≡ filledOf t → ltb (f .taken) (f .mark) ≡ ltb 0 (length (t .pending))
 pending-is f t is = ap (λ (x : Filled). ltb (x .taken) (x .mark)) is ∙ by (t .pending) (length (namesOf (t .entries)))
@@ -66,7 +67,8 @@ module _ (b : Buffers) (t : Table) (rows refs names : List ℕ) (H : Holds b t r
       let m : n + length (t .pending) + length fs ≡ n + length (t .pending ++ fs) = simp length-append (omega arith) in
       let next = filledOf (record { entries = t .entries; pending = t .pending ++ fs }) in
       let k : f .mark ≡ n + length (t .pending) = ap (λ (x : Filled). x .mark) is in (
-        ap Go (is-g ∙ same-filled _ next (ap (λ (x : Filled). x .entries) is) (ap (λ (x : Filled). x .refs) is) (ap (λ (x : Filled). x .taken) is) (rw k m) (ap (λ (x : Filled). x .last) is)),
+        ap Go (is-g ∙ same-filled _ next (ap (λ (x : Filled). x .entries) is) (ap (λ (x : Filled). x .refs) is)
+            (ap (λ (x : Filled). x .taken) is) (rw k m) (ap (λ (x : Filled). x .last) is)),
         record {
           rows-are = H .rows-are;
           refs-are = H .refs-are;
@@ -77,7 +79,8 @@ module _ (b : Buffers) (t : Table) (rows refs names : List ℕ) (H : Holds b t r
         },
       )
 
-  module _ (fs : List ℕ) (p : Put) (front : List Entry) (e : Entry) (P : Puts t fs p front e) (inside : p .from + p .more ≤ length fs) (entries : ℕ) (f : Filled) (is : f ≡ filledOf t) (y z : ℕ) (is-y : y ≡ length refs) (is-z : z ≡ length (b .names)) where
+  module _ (fs : List ℕ) (p : Put) (front : List Entry) (e : Entry) (P : Puts t fs p front e) (inside : p .from + p .more ≤ length fs)
+      (entries : ℕ) (f : Filled) (is : f ≡ filledOf t) (y z : ℕ) (is-y : y ≡ length refs) (is-z : z ≡ length (b .names)) where
     room-is : hasRoom p f entries y z ≡ fits (roomIn entries b) (front ++ (e ∷ []))
     room-is = rw (is, is-y ∙ length-refs, is-z) (room-after t fs p front e P inside entries b)
 
@@ -97,16 +100,20 @@ module _ (b : Buffers) (t : Table) (rows refs names : List ℕ) (H : Holds b t r
         let told = room-told p f entries y z room in
         let refs-mark : f .refs ≡ length (refsOf (t .entries)) = ap (λ (v : Filled). v .refs) is in
         let end : endOf p f ≡ length (namesOf (front ++ (e ∷ []))) = ap (endOf p) is ∙ sym (names-count t fs p front e P inside) in
-        let row : wordsOf r ≡ wordsOf (rowOf (length (refsOf front)) (length (namesOf front)) e) = ap wordsOf (is-r ∙ ap (rowFor p) is) ∙ row-after t fs p front e P inside in
+        let row : wordsOf r ≡ wordsOf (rowOf (length (refsOf front)) (length (namesOf front)) e) =
+        ap wordsOf (is-r ∙ ap (rowFor p) is) ∙ row-after t fs p front e P inside in
         let at : p .row * rowWords ≡ length (rowsOf front) = omega (arith, length-rowsOf front, P .row-is) in
         let long : length rows ≡ length (b .rows) = length-rows in
         let old : rows ≡ over (rowsOf front ++ P .old-row) (b .rows) = H .rows-are ∙ ap (λ (l : List ℕ). over l (b .rows)) (P .rows-were) in
         rw (sym room-is ∙ room) (
           ap Go (is-g ∙ ap (grown p) is ∙ filled-after t fs p front e P inside),
           record {
-            rows-are = over-again (rowsOf front) (b .rows) rows x (p .row * rowWords) at (omega arith) (P .old-row) (wordsOf r) old (P .old-le) (simp length-append (omega arith)) is-x ∙ rw (row, rowsOf-snoc front e);
-            refs-are = over-rest (refsOf (t .entries)) (b .refs) refs y′ (f .refs) refs-mark (H .refs-fit) src (H .refs-are) is-y′ ∙ rw (is-src, refs-after t fs p front e P inside);
-            names-are = H .names-are ∙ ap (λ (l : List ℕ). over l (b .names)) (names-join (p .head .named) (t .pending) (namesOf (t .entries)) ∙ rw (names-after t fs p front e P inside, P .name-is));
+            rows-are = over-again (rowsOf front) (b .rows) rows x (p .row * rowWords) at (omega arith) (P .old-row) (wordsOf r) old
+                (P .old-le) (simp length-append (omega arith)) is-x ∙ rw (row, rowsOf-snoc front e);
+            refs-are = over-rest (refsOf (t .entries)) (b .refs) refs y′ (f .refs) refs-mark (H .refs-fit) src (H .refs-are) is-y′ ∙
+                rw (is-src, refs-after t fs p front e P inside);
+            names-are = H .names-are ∙ ap (λ (l : List ℕ). over l (b .names))
+                (names-join (p .head .named) (t .pending) (namesOf (t .entries)) ∙ rw (names-after t fs p front e P inside, P .name-is));
             rows-fit = simp length-append (omega (arith, P .row-is));
             refs-fit = omega (arith, refs-count t fs p front e P inside, length-refs);
             names-fit = omega arith;

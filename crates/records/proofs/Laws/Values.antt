@@ -8,6 +8,7 @@ use native.Mathlib.Omega.{arith}
 use lib.Dec.{leb, ltb}
 use lib.ListN.{length}
 use borrow.Author.Tests.{le-leb, lt-leb, lt-ltb, le-ltb, ltb-true, leb-true}
+use Rattle.laws.proofs.Told.{and-told}
 use Rattle.table.specs.declared.row.Row.{Row}
 use Rattle.table.specs.Rows.{placeOf}
 use Rattle.records.specs.declared.Filled.{Filled}
@@ -17,10 +18,6 @@ use Rattle.records.specs.Values.{endOf, hasRoom, rowFor, grown}
 pub placeOf-some : (n p : ℕ) → (n ≡ 0 → ⊥) → p ≡ placeOf n p
 placeOf-some zero p h = absurd (h refl)
 placeOf-some (suc n) p h = refl
-
-both : (a b : Bool) → a && b ≡ true → (a ≡ true) × (b ≡ true)
-both true b h = (refl, h)
-both false b h = absurd (let z : _≡_ {A = ℕ} 0 1 = cc in omega arith)
 
 module _ (p : Put) (f : Filled) where
   pub end-ge : f .taken ≤ f .mark → f .taken ≤ endOf p f
@@ -39,7 +36,16 @@ module _ (p : Put) (f : Filled) where
 
   pub rowFor-is : (e a b w : ℕ) → e ≡ endOf p f → a ≡ placeOf (p .head .count) (f .refs - p .kept) → b ≡ placeOf (e - f .taken) (f .taken)
       → w ≡ cond (p .head .named) 1 0
-      → _≡_ {A = Row} (record { kind = p .head .kind; number = p .head .number; flag = p .head .flag; first = a; count = p .head .count; start = b; len = e - f .taken; named = w }) (rowFor p f)
+      → _≡_ {A = Row} (record {
+        kind = p .head .kind;
+        number = p .head .number;
+        flag = p .head .flag;
+        first = a;
+        count = p .head .count;
+        start = b;
+        len = e - f .taken;
+        named = w;
+      }) (rowFor p f)
   rowFor-is e a b w is-e is-a is-b is-w = rw (is-b, is-a, is-w, is-e)
 
   pub room-entries : (x y z : ℕ) → x ≤ p .row → false ≡ hasRoom p f x y z
@@ -53,6 +59,6 @@ module _ (p : Put) (f : Filled) where
 
   pub room-told : (x y z : ℕ) → hasRoom p f x y z ≡ true → (p .row < x) × (f .refs + p .more ≤ y) × (endOf p f ≤ z)
   room-told x y z e =
-      let a = both _ _ e in
-      let b = both _ _ (a .1) in
+      let a = and-told _ _ e in
+      let b = and-told _ _ (a .1) in
       (ltb-true _ _ (a .0), leb-true _ _ (b .0), leb-true _ _ (b .1))

@@ -27,7 +27,8 @@ places = Pointee ∷ ArrayElement ∷ VectorElement ∷ StructElement ∷ Return
 
 faultOf : ℕ → ℕ → Fault
 faultOf n d =
-    cond (eqb n outOfRange) (OutOfRange d) (cond (eqb n badWidth) (Width d) (Referent (cond (eqb n 0) Unruled (getD places (n - numberOf Pointee) Unruled)) d))
+    cond (eqb n outOfRange) (OutOfRange d)
+    (cond (eqb n badWidth) (Width d) (Referent (cond (eqb n 0) Unruled (getD places (n - numberOf Pointee) Unruled)) d))
 
 caseOf : Paper → Resolution
 caseOf accepted = Accepted
@@ -69,7 +70,8 @@ unfolding firstBad NoCycle
 firstBad-no-cycle rows kind i [] = tt
 firstBad-no-cycle rows kind i (x ∷ xs) = go (suits kind i (rowAt rows x .kind)) (firstBad-no-cycle rows kind (suc i) xs)
   where
-    go : (s : Bool) → NoCycle (firstBad rows kind (suc i) xs) → NoCycle (cond s (firstBad rows kind (suc i) xs) (broken (numberOf (placeAt kind i)) x))
+    go : (s : Bool) → NoCycle (firstBad rows kind (suc i) xs)
+        → NoCycle (cond s (firstBad rows kind (suc i) xs) (broken (numberOf (placeAt kind i)) x))
     go true h = h
     go false h = numberOf-no-cycle (placeAt kind i)
 

@@ -54,7 +54,8 @@ module _ (rows refs ranks : List ℕ) (n e : ℕ) where
       go false f = refl
 
   -- all of them: in range and falling, and none of a bad kind
-  every-inside : (l : List ℕ) (i r : ℕ) → everyFrom (refers rows ranks n e) i l ≡ true → List·Memᴰ r l → (r < n) × (counts r ≡ true → getD ranks r 0 < getD ranks e 0)
+  every-inside : (l : List ℕ) (i r : ℕ) → everyFrom (refers rows ranks n e) i l ≡ true → List·Memᴰ r l
+      → (r < n) × (counts r ≡ true → getD ranks r 0 < getD ranks e 0)
   unfolding everyFrom
   every-inside (x ∷ xs) i r h (List·Memᴰ·head q) =
       let g = good-of i x (and-true (refers rows ranks n e i x) _ h .0) in
@@ -68,13 +69,15 @@ module _ (rows refs ranks : List ℕ) (n e : ℕ) where
       let b = and-true (refers rows ranks n e i x) _ h in
       rw (good-of i x (b .0) .suited) (every-kept xs (suc i) (b .1))
 
-  every-of : (l : List ℕ) (i : ℕ) → firstBad rows kind i l ≡ kept → ((r : ℕ) → List·Memᴰ r l → (r < n) × (counts r ≡ true → getD ranks r 0 < getD ranks e 0))
+  every-of : (l : List ℕ) (i : ℕ) → firstBad rows kind i l ≡ kept
+      → ((r : ℕ) → List·Memᴰ r l → (r < n) × (counts r ≡ true → getD ranks r 0 < getD ranks e 0))
       → everyFrom (refers rows ranks n e) i l ≡ true
   unfolding everyFrom firstBad
   every-of [] i h f = refl
   every-of (x ∷ xs) i h f = go (suits kind i (rowAt rows x .kind)) refl h (λ k. every-of xs (suc i) k (λ r m. f r (List·Memᴰ·tail m)))
     where
-      go : (s : Bool) → suits kind i (rowAt rows x .kind) ≡ s → cond s (firstBad rows kind (suc i) xs) (broken (numberOf (placeAt kind i)) x) ≡ kept
+      go : (s : Bool) → suits kind i (rowAt rows x .kind) ≡ s → cond s (firstBad rows kind (suc i) xs)
+          (broken (numberOf (placeAt kind i)) x) ≡ kept
           → (firstBad rows kind (suc i) xs ≡ kept → everyFrom (refers rows ranks n e) (suc i) xs ≡ true)
           → refers rows ranks n e i x && everyFrom (refers rows ranks n e) (suc i) xs ≡ true
       go true q h rest =
@@ -91,7 +94,11 @@ module _ (rows refs ranks : List ℕ) (n e : ℕ) where
   unfolding ruleAt
   lawful-passes h =
       let b = and-true (not wide) _ h in (
-        record { inside = λ r m. every-inside (refsAt rows refs e) 0 r (b .1) m .0; fine = fine wide (b .0) (every-kept (refsAt rows refs e) 0 (b .1)) },
+        record {
+          inside = λ r m. every-inside (refsAt rows refs e) 0 r (b .1) m .0;
+          fine = fine wide (b .0)
+              (every-kept (refsAt rows refs e) 0 (b .1));
+        },
         λ r k. every-inside (refsAt rows refs e) 0 r (b .1) (k .listed) .1 (k .counted),
       )
     where
@@ -100,7 +107,8 @@ module _ (rows refs ranks : List ℕ) (n e : ℕ) where
       fine true q k = let z : _≡_ {A = ℕ} 0 1 = cc in absurd (omega arith)
       fine false q k = k
 
-  pub passes-lawful : Lawful (tableOf rows refs n) e → ((r : ℕ) → Refers (tableOf rows refs n) e r → getD ranks r 0 < getD ranks e 0) → lawful rows refs ranks n e ≡ true
+  pub passes-lawful : Lawful (tableOf rows refs n) e → ((r : ℕ) → Refers (tableOf rows refs n) e r → getD ranks r 0 < getD ranks e 0)
+      → lawful rows refs ranks n e ≡ true
   unfolding ruleAt
   passes-lawful l f = go wide (l .fine)
     where
@@ -126,7 +134,8 @@ module _ (rows refs : List ℕ) (bytes : ℕ) (ranks : List ℕ) (n : ℕ) where
       at i a b (yes s) here later = rw s here
       at i a b (no t) here later = later i (omega arith) (omega arith)
 
-  both-rows : (left e r k : ℕ) → formedFrom rows (length refs) bytes left e r k ≡ true → ((i : ℕ) → e ≤ i → i < e + left → lawful rows refs ranks n i ≡ true)
+  both-rows : (left e r k : ℕ) → formedFrom rows (length refs) bytes left e r k ≡ true
+      → ((i : ℕ) → e ≤ i → i < e + left → lawful rows refs ranks n i ≡ true)
       → rowsFrom rows refs bytes ranks n left e r k ≡ true
   unfolding rowsFrom formedFrom
   both-rows zero e r k h f = refl
@@ -157,4 +166,5 @@ module _ (rows refs names ranks : List ℕ) (n : ℕ) where
       let a = and-true (leb n maxEntries) _ h in
       let b = and-true (leb n (entryRoom (length rows))) _ (a .1) in
       rw (a .0, b .0, le-leb n (length ranks) (p .sized))
-      (both-rows rows refs (length names) ranks n n 0 0 0 (b .1) (λ e low high. passes-lawful rows refs ranks n e (p .lawful e (omega arith)) (λ r k. p .falls e r (omega arith) k)))
+      (both-rows rows refs (length names) ranks n n 0 0 0 (b .1) (λ e low high. passes-lawful rows refs ranks n e
+      (p .lawful e (omega arith)) (λ r k. p .falls e r (omega arith) k)))

@@ -19,14 +19,32 @@ module _ (kind i : ℕ) (h : Apart (function ∷ pointer ∷ struct ∷ array �
   unfolding placeAt
   placeAt-vector some high =
       let low = vector kind some (h .0) (h .1 .0) (h .1 .1 .0) (h .1 .1 .1 .0) in
-      rw (ne-eqb kind function (h .0), ne-eqb kind pointer (h .1 .0), ne-eqb kind struct (h .1 .1 .0), ne-eqb kind array (h .1 .1 .1 .0), within-inside fixedVector scalableVector kind low (omega arith))
+      rw (
+        ne-eqb kind function (h .0),
+        ne-eqb kind pointer (h .1 .0),
+        ne-eqb kind struct (h .1 .1 .0),
+        ne-eqb kind array (h .1 .1 .1 .0),
+        within-inside fixedVector scalableVector kind low (omega arith),
+      )
 
   pub placeAt-below : kind < fixedVector → Unruled ≡ placeAt kind i
   unfolding placeAt
   placeAt-below low =
-      rw (ne-eqb kind function (h .0), ne-eqb kind pointer (h .1 .0), ne-eqb kind struct (h .1 .1 .0), ne-eqb kind array (h .1 .1 .1 .0), within-below fixedVector scalableVector kind low)
+      rw (
+        ne-eqb kind function (h .0),
+        ne-eqb kind pointer (h .1 .0),
+        ne-eqb kind struct (h .1 .1 .0),
+        ne-eqb kind array (h .1 .1 .1 .0),
+        within-below fixedVector scalableVector kind low,
+      )
 
   pub placeAt-above : scalableVector < kind → Unruled ≡ placeAt kind i
   unfolding placeAt
   placeAt-above high =
-      rw (ne-eqb kind function (h .0), ne-eqb kind pointer (h .1 .0), ne-eqb kind struct (h .1 .1 .0), ne-eqb kind array (h .1 .1 .1 .0), within-above fixedVector scalableVector kind high)
+      rw (
+        ne-eqb kind function (h .0),
+        ne-eqb kind pointer (h .1 .0),
+        ne-eqb kind struct (h .1 .1 .0),
+        ne-eqb kind array (h .1 .1 .1 .0),
+        within-above fixedVector scalableVector kind high,
+      )

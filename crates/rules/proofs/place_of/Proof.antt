@@ -36,13 +36,16 @@ unfolding placeAt
 returns-5 c = rw (c .match .keys4)
 
 returns-6 : tie.Need-returns-6
-returns-6 c = let at = c .before .before in placeAt-vector (at .before .args .kind) (at .before .args .i) (apart-of-rest _ keys (at .before .args .kind) (at .match .rest) .1) (c .before .if2 .left) (c .if3 .taken)
+returns-6 c = let at = c .before .before in placeAt-vector (at .before .args .kind) (at .before .args .i)
+    (apart-of-rest _ keys (at .before .args .kind) (at .match .rest) .1) (c .before .if2 .left) (c .if3 .taken)
 
 returns-7 : tie.Need-returns-7
-returns-7 c = let at = c .before in placeAt-below (at .before .args .kind) (at .before .args .i) (apart-of-rest _ keys (at .before .args .kind) (at .match .rest) .1) (omega arith)
+returns-7 c = let at = c .before in placeAt-below (at .before .args .kind) (at .before .args .i)
+    (apart-of-rest _ keys (at .before .args .kind) (at .match .rest) .1) (omega arith)
 
 returns-8 : tie.Need-returns-8
-returns-8 c = let at = c .before .before in placeAt-above (at .before .args .kind) (at .before .args .i) (apart-of-rest _ keys (at .before .args .kind) (at .match .rest) .1) (omega arith)
+returns-8 c = let at = c .before .before in placeAt-above (at .before .args .kind) (at .before .args .i)
+    (apart-of-rest _ keys (at .before .args .kind) (at .match .rest) .1) (omega arith)
 
 pub place-of-spec : {M : Type 1} → statement M
 place-of-spec =

@@ -10,6 +10,7 @@ use lib.ListN.{length}
 use borrow.Author.Tests.{ltb-false}
 use denote.Enum.Declared.{tagOf}
 use types.Run.{OneOf}
+use Rattle.laws.proofs.Told.{no}
 use Rattle.laws.proofs.Numbers.{listed-of-keys}
 use Rattle.units.specs.Limits.{isAddressSpace}
 use Rattle.kinds.specs.declared.code.TypeCode.{TypeCode}
@@ -30,8 +31,8 @@ notName = 0 ∷ 2 ∷ 3 ∷ 4 ∷ 5 ∷ []
 pub spelled-other : (fs : List ℕ) (s : Shape) → OneOf notName (tagOf the-type s) → s ≡ spelled fs s
 spelled-other fs Nothing h = refl
 spelled-other fs Name h =
-    let no : false ≡ true = listed-of-keys notName notName 1 tt h in
-    absurd (let z : _≡_ {A = ℕ} 0 1 = cc in omega arith)
+    let listed : false ≡ true = listed-of-keys notName notName 1 tt h in
+    no (cc)
 spelled-other fs (Adds head from) h = refl
 spelled-other fs (Opaque head from) h = refl
 spelled-other fs (Named head from) h = refl
@@ -101,17 +102,17 @@ shapeIn-inside k fs p =
 -- a name that is taken is well formed
 
 spelled-name : (fs : List ℕ) (s : Shape) → spelled fs s ≡ Name → isUtf8 fs ≡ true
-spelled-name fs Nothing e = absurd (let z : _≡_ {A = ℕ} 0 1 = cc in omega arith)
+spelled-name fs Nothing e = no (cc)
 spelled-name fs Name e = by (ltb 0 (length fs)) (isUtf8 fs) e
   where
     by : (a b : Bool) → cond (a && b) Name (Refused BadName) ≡ Name → b ≡ true
     by a true q = refl
-    by true false q = absurd (let z : _≡_ {A = ℕ} 0 1 = cc in omega arith)
-    by false false q = absurd (let z : _≡_ {A = ℕ} 0 1 = cc in omega arith)
-spelled-name fs (Adds h from) e = absurd (let z : _≡_ {A = ℕ} 0 1 = cc in omega arith)
-spelled-name fs (Opaque h from) e = absurd (let z : _≡_ {A = ℕ} 0 1 = cc in omega arith)
-spelled-name fs (Named h from) e = absurd (let z : _≡_ {A = ℕ} 0 1 = cc in omega arith)
-spelled-name fs (Refused fault) e = absurd (let z : _≡_ {A = ℕ} 0 1 = cc in omega arith)
+    by true false q = no (cc)
+    by false false q = no (cc)
+spelled-name fs (Adds h from) e = no (cc)
+spelled-name fs (Opaque h from) e = no (cc)
+spelled-name fs (Named h from) e = no (cc)
+spelled-name fs (Refused fault) e = no (cc)
 
 pub shapeIn-name : (k : ℕ) (fs : List ℕ) (p : Bool) → shapeIn k fs p ≡ Name → isUtf8 fs ≡ true
 shapeIn-name k fs p e = spelled-name fs (shapeOf (typeCode k) k (seenIn fs) p) e

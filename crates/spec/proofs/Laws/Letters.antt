@@ -11,7 +11,8 @@ abbrev pub lettersOf : {A : Type 0} → List (ℕ × A) → List ℕ
 lettersOf [] = []
 lettersOf (line ∷ table) = line .0 ∷ lettersOf table
 
-pub chosen-of-apart : {A : Type 0} (other : A) (table : List (ℕ × A)) (letter : ℕ) → Apart (lettersOf table) letter → chosen other table letter ≡ other
+pub chosen-of-apart : {A : Type 0} (other : A) (table : List (ℕ × A)) (letter : ℕ) → Apart (lettersOf table) letter
+    → chosen other table letter ≡ other
 unfolding chosen
 chosen-of-apart other [] letter h = refl
 chosen-of-apart other (line ∷ table) letter h = rw (ne-eqb letter (line .0) (h .0), chosen-of-apart other table letter (h .1))

@@ -74,7 +74,8 @@ numbersIn-spaces (first ∷ skipped ∷ rest) some i h =
     let e : suc (suc (length rest)) - 2 ≡ length rest = omega arith in
     rw (eq-eqb first 105 i, e, take-length)
 
-pub numbersIn-widths : (s : List ℕ) → (length s ≡ 0 → ⊥) → (getD s 0 0 ≡ 105 → ⊥) → numbersFrom NativeIntegerWidths noNumbers (partsOf colon s) ≡ numbersIn s
+pub numbersIn-widths : (s : List ℕ) → (length s ≡ 0 → ⊥) → (getD s 0 0 ≡ 105 → ⊥)
+    → numbersFrom NativeIntegerWidths noNumbers (partsOf colon s) ≡ numbersIn s
 unfolding numbersIn
 numbersIn-widths [] some i = absurd (some refl)
 numbersIn-widths (first ∷ rest) some i = rw (ne-eqb first 105 i)

@@ -31,22 +31,35 @@ module _ (s : List ℕ) (end : ℕ) (is : end ≡ endOf colon s 0) where
 
       abbrev row : PointerRow
       row =
-          pointerRowIn (take (end - 0) (drop 0 s)) (take (end2 - (end + 1)) (drop (end + 1) s)) (take (end3 - (end2 + 1)) (drop (end2 + 1) s))
+          pointerRowIn (take (end - 0) (drop 0 s)) (take (end2 - (end + 1)) (drop (end + 1) s))
+          (take (end3 - (end2 + 1)) (drop (end2 + 1) s))
 
       pub pointerIn-three : end3 ≡ length s → row ≡ pointerIn (partsOf colon s)
       unfolding pointerIn pointerRest
       pointerIn-three last =
-          rw (partsOf-more colon s 0 end zero-le is more, partsOf-more colon s (end + 1) end2 start2 is2 more2, partsOf-last colon s (end2 + 1) end3 start3 is3 last)
+          rw (
+            partsOf-more colon s 0 end zero-le is more,
+            partsOf-more colon s
+                (end + 1) end2 start2 is2 more2,
+            partsOf-last colon s (end2 + 1) end3 start3 is3 last,
+          )
 
       pub pointerIn-more : (end3 ≡ length s → ⊥) → (read : PointerRow) → read ≡ row
           → pointerRest read (partsOf colon (drop (end3 + 1) s)) ≡ pointerIn (partsOf colon s)
       unfolding pointerIn
       pointerIn-more more3 read e =
-          rw (e, partsOf-more colon s 0 end zero-le is more, partsOf-more colon s (end + 1) end2 start2 is2 more2, partsOf-more colon s (end2 + 1) end3 start3 is3 more3)
+          rw (
+            e,
+            partsOf-more colon s 0 end zero-le is more,
+            partsOf-more colon s
+                (end + 1) end2 start2 is2 more2,
+            partsOf-more colon s (end2 + 1) end3 start3 is3 more3,
+          )
 
 -- behind the ABI, from `start` on
 module _ (row : PointerRow) (s : List ℕ) (start end : ℕ) (in-s : start ≤ length s) (is : end ≡ endOf colon s start) where
-  pub pointerRest-one : end ≡ length s → pointerPreferred row (take (end - start) (drop start s)) ≡ pointerRest row (partsOf colon (drop start s))
+  pub pointerRest-one : end ≡ length s → pointerPreferred row (take (end - start) (drop start s))
+      ≡ pointerRest row (partsOf colon (drop start s))
   unfolding pointerRest
   pointerRest-one last = rw (partsOf-last colon s start end in-s is last)
 

@@ -23,7 +23,8 @@ use Rattle.spec.proofs.Laws.Letters.{chosen-of-apart}
 abbrev functionLetters : List ℕ
 functionLetters = 105 ∷ 110 ∷ []
 
-pub functionLetter-of-rest : (letter : ℕ) (align : Align) → Rest (Unit {0}) functionLetters letter → Refused BadSpecParse ≡ functionLetter letter align
+pub functionLetter-of-rest : (letter : ℕ) (align : Align) → Rest (Unit {0}) functionLetters letter → Refused BadSpecParse
+    ≡ functionLetter letter align
 functionLetter-of-rest letter align h = sym (chosen-of-apart _ _ letter (apart-of-rest (Unit {0}) functionLetters letter h .1))
 
 abbrev manglingLetters : List ℕ
@@ -43,7 +44,8 @@ pub functionPointerIn-none : (s : List ℕ) → length s ≡ 0 → Refused BadSp
 functionPointerIn-none [] h = refl
 functionPointerIn-none (letter ∷ number) h = absurd (omega arith)
 
-pub functionPointerIn-some : (s : List ℕ) → (length s ≡ 0 → ⊥) → functionOf (getD s 0 0) (alignIn (take (length s - 1) (drop 1 s))) ≡ functionPointerIn s
+pub functionPointerIn-some : (s : List ℕ) → (length s ≡ 0 → ⊥)
+    → functionOf (getD s 0 0) (alignIn (take (length s - 1) (drop 1 s))) ≡ functionPointerIn s
 functionPointerIn-some s some = ap functionPointerIn (sym (cons-of-some s some))
 
 pub manglingIn-short : (s : List ℕ) → length s < 2 → Refused BadSpecParse ≡ manglingIn s

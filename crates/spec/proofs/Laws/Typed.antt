@@ -37,13 +37,25 @@ module _ (kind : AlignedType) (s : List ℕ) (end : ℕ) (is : end ≡ endOf col
           → typePreferred read (take (end3 - (end2 + 1)) (drop (end2 + 1) s)) ≡ typeIn kind (partsOf colon s)
       unfolding typeIn
       typeIn-three last read e =
-          rw (e, partsOf-more colon s 0 end zero-le is more, partsOf-more colon s (end + 1) end2 start2 is2 more2, partsOf-last colon s (end2 + 1) end3 start3 is3 last)
+          rw (
+            e,
+            partsOf-more colon s 0 end zero-le is more,
+            partsOf-more colon s
+                (end + 1) end2 start2 is2 more2,
+            partsOf-last colon s (end2 + 1) end3 start3 is3 last,
+          )
 
       pub typeIn-four : (end3 ≡ length s → ⊥) → Not BadSpecParse ≡ typeIn kind (partsOf colon s)
       unfolding typeIn
       typeIn-four more3 =
           let start4 = endOf-next colon s (end2 + 1) end3 start3 is3 more3 in
-          rw (partsOf-more colon s 0 end zero-le is more, partsOf-more colon s (end + 1) end2 start2 is2 more2, partsOf-more colon s (end2 + 1) end3 start3 is3 more3)
+          rw (
+            partsOf-more colon s 0 end zero-le is more,
+            partsOf-more colon s
+                (end + 1) end2 start2 is2 more2,
+            partsOf-more colon s (end2 + 1) end3 start3 is3 more3,
+          )
           (partsOf-head colon s (end3 + 1) (endOf colon s (end3 + 1)) start4 refl
-          (λ ps. Not BadSpecParse ≡ typeIn kind (take (end - 0) (drop 0 s) ∷ take (end2 - (end + 1)) (drop (end + 1) s) ∷ take (end3 - (end2 + 1)) (drop (end2 + 1) s) ∷ ps))
+          (λ ps. Not BadSpecParse ≡ typeIn kind
+          (take (end - 0) (drop 0 s) ∷ take (end2 - (end + 1)) (drop (end + 1) s) ∷ take (end3 - (end2 + 1)) (drop (end2 + 1) s) ∷ ps))
           (λ ps. refl))

@@ -8,6 +8,7 @@ use native.Mathlib.Omega.{arith}
 use lib.Dec.{T, eqb}
 use lib.ListN.{length, getD, take, drop}
 use borrow.Author.Tests.{ne-eqb}
+use Rattle.laws.proofs.Told.{no}
 use Rattle.laws.proofs.Bools.{T-and}
 use Rattle.kinds.specs.declared.code.TypeCode.{TypeCode}
 use Rattle.kinds.specs.Codes.{Numbered, codes, codeIn, typeCode}
@@ -29,7 +30,8 @@ isNumEntry-codeIn : (cs : List Numbered) (n : ℕ) → T (noneNumEntry cs) → i
 isNumEntry-codeIn [] n t = refl
 isNumEntry-codeIn (c ∷ cs) n t = by (eqb n (c .number)) (isNumEntry (c .says)) refl t (isNumEntry-codeIn cs n)
   where
-    by : (b s : Bool) → isNumEntry (c .says) ≡ s → T (cond s false (noneNumEntry cs)) → (T (noneNumEntry cs) → isNumEntry (codeIn cs n) ≡ false)
+    by : (b s : Bool) → isNumEntry (c .says) ≡ s → T (cond s false (noneNumEntry cs))
+        → (T (noneNumEntry cs) → isNumEntry (codeIn cs n) ≡ false)
         → isNumEntry (cond b (c .says) (codeIn cs n)) ≡ false
     by b true e t later = absurd t
     by true false e t later = e
@@ -64,16 +66,16 @@ module _ (seen : List (List ℕ)) (before : Stated) (is : before ≡ statedBy se
     where
       by : (fss : List (List ℕ)) → Nothing ≡ statedBy fss → statedBy (fields ∷ []) ≡ statedBy (fss ++ fields ∷ [])
       by [] q = refl
-      by ([] ∷ []) q = absurd (let z : _≡_ {A = ℕ} 0 1 = cc in omega arith)
-      by ((n ∷ fs) ∷ []) q = absurd (let z : _≡_ {A = ℕ} 0 1 = cc in omega arith)
-      by ([] ∷ gs ∷ fss) q = absurd (let z : _≡_ {A = ℕ} 0 1 = cc in omega arith)
-      by ((n ∷ fs) ∷ gs ∷ fss) q = absurd (let z : _≡_ {A = ℕ} 0 1 = cc in omega arith)
+      by ([] ∷ []) q = no (cc)
+      by ((n ∷ fs) ∷ []) q = no (cc)
+      by ([] ∷ gs ∷ fss) q = no (cc)
+      by ((n ∷ fs) ∷ gs ∷ fss) q = no (cc)
 
   pub count-more : code ≡ 1 → isNothing before ≡ false → Faulty ≡ statedBy (seen ++ numEntryIn code fields)
   count-more e some = rw (numEntryIn-this code fields e) (by seen (sym (ap isNothing is) ∙ some))
     where
       by : (fss : List (List ℕ)) → isNothing (statedBy fss) ≡ false → Faulty ≡ statedBy (fss ++ fields ∷ [])
-      by [] q = absurd (let z : _≡_ {A = ℕ} 0 1 = cc in omega arith)
+      by [] q = no (cc)
       by ([] ∷ []) q = refl
       by ((n ∷ fs) ∷ []) q = refl
       by ([] ∷ gs ∷ fss) q = refl
@@ -112,7 +114,8 @@ module _ (ws : List ℕ) (at : ℕ) (stated : Stated) (h : Counted ws at stated)
   Counted-cut q = done-by (rw (is-cut ws at r is q))
 
   pub Counted-more : (c s e : ℕ) → r ≡ Record c s e → (next : Stated)
-      → ((seen : List (List ℕ)) → stated ≡ statedBy seen → next ≡ statedBy (seen ++ numEntryIn c (take (e - s) (drop s ws)))) → Counted ws e next
+      → ((seen : List (List ℕ)) → stated ≡ statedBy seen → next ≡ statedBy (seen ++ numEntryIn c (take (e - s) (drop s ws))))
+      → Counted ws e next
   unfolding numEntries
   Counted-more c s e q next steps =
       let l = lies ws at r is c s e q in
@@ -121,5 +124,6 @@ module _ (ws : List ℕ) (at : ℕ) (stated : Stated) (h : Counted ws at stated)
         in-words = l .2;
         seen = h .seen ++ numEntryIn c fields;
         stated-is = steps (h .seen) (h .stated-is);
-        whole = h .whole ∙ rw (is-record ws at r is c s e q) (sym (append-assoc (h .seen) (numEntryIn c fields) (numEntries (stream (drop e ws)))));
+        whole = h .whole ∙ rw (is-record ws at r is c s e q) (sym (append-assoc (h .seen) (numEntryIn c fields)
+            (numEntries (stream (drop e ws)))));
       }

@@ -33,7 +33,8 @@ returns-3 : tie.Need-returns-3
 returns-3 c =
     let a = c .before .before .before .before .before .args in
     let none : a .before ≡ Nothing = search needs in
-    λ seen is. stated-count (a .fields .now) (c .before .if2 .left) ∙ count-first seen (a .before) is (a .code) (a .fields .now) (omega arith) none
+    λ seen is. stated-count (a .fields .now) (c .before .if2 .left) ∙ count-first seen (a .before) is (a .code) (a .fields .now)
+    (omega arith) none
 
 returns-4 : tie.Need-returns-4
 returns-4 c =

@@ -22,14 +22,17 @@ abbrev μ-loop : tie.MeasureT-loop
 μ-loop words at₀ stated₀ at stated = length words - at
 
 -- the record that was found, and that it lies in the words
-found : (c : lts.After-known-told (record-at-reads.Asked, record-at-reads.Learnt, count-in-reads.Asked, count-in-reads.Learnt) reads.Pre reads.Post Inv-loop μ-loop)
+found : (c : lts.After-known-told (record-at-reads.Asked, record-at-reads.Learnt, count-in-reads.Asked, count-in-reads.Learnt) reads.Pre
+    reads.Post Inv-loop μ-loop)
     → let told = c .before .code .given .0 in c .before .before .before .record-at .result ≡ Record (told .0) (told .1 .0) (told .1 .1 .0)
 found c = search needs
 
-within-words : (c : lts.After-known-told (record-at-reads.Asked, record-at-reads.Learnt, count-in-reads.Asked, count-in-reads.Learnt) reads.Pre reads.Post Inv-loop μ-loop)
+within-words : (c : lts.After-known-told (record-at-reads.Asked, record-at-reads.Learnt, count-in-reads.Asked, count-in-reads.Learnt)
+    reads.Pre reads.Post Inv-loop μ-loop)
     → let told = c .before .code .given .0 in
     let at-loop = c .before .before .before .before in
-    (told .1 .0 ≡ at-loop .loop .at + 2) × (told .1 .0 ≤ told .1 .1 .0) × (told .1 .1 .0 ≤ length (at-loop .before .before .args .words .now))
+    (told .1 .0 ≡ at-loop .loop .at + 2) × (told .1 .0 ≤ told .1 .1 .0)
+    × (told .1 .1 .0 ≤ length (at-loop .before .before .args .words .now))
 within-words c =
     let at-loop = c .before .before .before .before in
     let call = c .before .before .before .record-at in
@@ -49,7 +52,8 @@ returns c =
     let at-loop = c .before .before .before in
     let call = c .before .before .record-at in
     let found : call .result ≡ End = search needs in
-    Counted-end (at-loop .before .before .args .words .now) (at-loop .loop .at) (at-loop .loop .stated) (at-loop .loop .inv) (call .result) (call .ensures) found
+    Counted-end (at-loop .before .before .args .words .now) (at-loop .loop .at) (at-loop .loop .stated) (at-loop .loop .inv) (call .result)
+    (call .ensures) found
 
 enum-told-2 : tie.Need-enum-told-2 Inv-loop μ-loop
 enum-told-2 c = search needs
@@ -59,7 +63,8 @@ returns-2 c =
     let at-loop = c .before .before .before in
     let call = c .before .before .record-at in
     let found : call .result ≡ Cut = search needs in
-    Counted-cut (at-loop .before .before .args .words .now) (at-loop .loop .at) (at-loop .loop .stated) (at-loop .loop .inv) (call .result) (call .ensures) found
+    Counted-cut (at-loop .before .before .args .words .now) (at-loop .loop .at) (at-loop .loop .stated) (at-loop .loop .inv) (call .result)
+    (call .ensures) found
 
 enum-known-code : tie.Need-enum-known-code Inv-loop μ-loop
 enum-known-code c = search needs
@@ -93,7 +98,8 @@ loop-again c =
     let at-loop = at-record .before .before .before .before in
     let call = at-record .before .before .before .record-at in
     let words = at-loop .before .before .args .words .now in
-    Counted-more words (at-loop .loop .at) (at-loop .loop .stated) (at-loop .loop .inv) (call .result) (call .ensures) _ _ _ (found at-record)
+    Counted-more words (at-loop .loop .at) (at-loop .loop .stated) (at-loop .loop .inv) (call .result) (call .ensures) _ _ _
+    (found at-record)
     (c .count-in .result) (c .count-in .ensures)
 
 pub count-of-spec : {M : Type 1} → statement M

@@ -31,7 +31,8 @@ returns c =
     let at-loop = c .before .before .before in
     let call = c .before .before .record-at in
     let found : call .result ≡ End = search needs in
-    sym (at-loop .loop .inv .1 ∙ framed-end (at-loop .before .before .args .words .now) (at-loop .loop .at) (call .result) (call .ensures) found)
+    sym (at-loop .loop .inv .1 ∙ framed-end (at-loop .before .before .args .words .now) (at-loop .loop .at) (call .result) (call .ensures)
+    found)
 
 enum-told-2 : tie.Need-enum-told-2 Inv-loop μ-loop
 enum-told-2 c = search needs
@@ -41,7 +42,8 @@ returns-2 c =
     let at-loop = c .before .before .before in
     let call = c .before .before .record-at in
     let found : call .result ≡ Cut = search needs in
-    sym (at-loop .loop .inv .1 ∙ framed-cut (at-loop .before .before .args .words .now) (at-loop .loop .at) (call .result) (call .ensures) found)
+    sym (at-loop .loop .inv .1 ∙ framed-cut (at-loop .before .before .args .words .now) (at-loop .loop .at) (call .result) (call .ensures)
+    found)
 
 enum-known-end : tie.Need-enum-known-end Inv-loop μ-loop
 enum-known-end c = search needs

@@ -8,7 +8,8 @@ use Prim.Native.Nat.{ℕ, zero, suc, _+_, _-_, _%_, _≤_, _<_}
 use native.Mathlib.Numerals.{add-one}
 use native.Mathlib.Omega.{arith}
 use lib.ListN.{length, getD, take, drop, set, length-append, length-drop, length-take, length-set, length-replicate, drop-of-length-le}
-use lib.Seq.{drop-cons, take-suc, set-at, append-snoc, length-take-le, drop-drop, drop-length, take-all, take-append-add, drop-append-add, drop-append-seam, take-append-seam, take-append-le}
+use lib.Seq.{drop-cons, take-suc, set-at, append-snoc, length-take-le, drop-drop, drop-length, take-all, take-append-add, drop-append-add}
+use lib.Seq.{drop-append-seam, take-append-seam, take-append-le}
 use Rattle.laws.proofs.Rests.{rest-part, rest-none}
 use Rattle.table.specs.Buffers.{over, zeros, padded, lowBytes}
 
@@ -79,7 +80,12 @@ over-fits xs l h = rw (take-all (length l) xs h)
 pub over-full : (xs ys l : List ℕ) → length l ≤ length xs → over (xs ++ ys) l ≡ over xs l
 unfolding over
 over-full xs ys l h =
-    rw (take-append-le (length l) xs ys h, drop-of-length-le l {i = length (xs ++ ys)} (simp length-append (omega arith)), drop-of-length-le l {i = length xs} h)
+    rw (
+      take-append-le (length l) xs ys h,
+      drop-of-length-le l {i = length (xs ++ ys)} (simp length-append (omega arith)),
+      drop-of-length-le
+          l {i = length xs} h,
+    )
 
 over-add : (xs ys l : List ℕ) → length xs ≤ length l → xs ++ over ys (drop (length xs) l) ≡ over (xs ++ ys) l
 unfolding over
@@ -92,7 +98,8 @@ module _ (xs b l last : List ℕ) (a : ℕ) (is-a : a ≡ length xs) (fits : len
   pub over-rest : (ys : List ℕ) → l ≡ over xs b → last ≡ over ys (take (length l - a) (drop a l))
       → take a l ++ (last ++ drop (length l - a) (drop a l)) ≡ over (xs ++ ys) b
   over-rest ys is-l is =
-      rw (is, rest-none l a, rest-part l a, append-nil, is-l, over-fits xs b fits, is-a, take-append-seam, drop-append-seam) (over-add xs ys b fits)
+      rw (is, rest-none l a, rest-part l a, append-nil, is-l, over-fits xs b fits, is-a, take-append-seam, drop-append-seam)
+      (over-add xs ys b fits)
 
   pub padded-rest : (ys : List ℕ) → l ≡ over (xs ++ ys) b → last ≡ zeros (length (take (length l - a) (drop a l)))
       → take a l ++ (last ++ drop (length l - a) (drop a l)) ≡ padded (length b) xs
@@ -111,7 +118,8 @@ module _ (xs b l last : List ℕ) (a : ℕ) (is-a : a ≡ length xs) (fits : len
       let more = length ys - length old in
       let n : length ys ≡ length old + more = omega arith in
       let m : length (xs ++ old) + more ≡ length (xs ++ ys) = simp length-append (omega arith) in
-      let behind : drop (length ys) (old ++ rest) ≡ drop (length (xs ++ ys)) b = rw (n, drop-append-add old rest more, drop-drop more (length (xs ++ old)) b, m) in
+      let behind : drop (length ys) (old ++ rest) ≡ drop (length (xs ++ ys)) b =
+      rw (n, drop-append-add old rest more, drop-drop more (length (xs ++ old)) b, m) in
       let fits-old : length ys ≤ length (old ++ rest) = simp (length-append, length-drop) (omega (arith, length-append xs ys)) in
       let front : over ys (old ++ rest) ≡ ys ++ drop (length (xs ++ ys)) b = over-fits ys (old ++ rest) fits-old ∙ rw behind in
       rw (is, rest-none l a, rest-part l a, append-nil, is-l ∙ flat, is-a, take-append-seam, drop-append-seam)

@@ -61,4 +61,5 @@ module _ (rows : List ℕ) (e : ℕ) where
       → _≡_ {A = Row} (record { kind = 0; number = 0; flag = 0; first = 0; count = 0; start = 0; len = 0; named = 0 }) (rowAt rows e)
   rowAt-past past =
       let none : (k : ℕ) → 0 ≡ getD rows (e * rowWords + k) 0 = λ k. sym (List·getD-eq-default rows 0 (omega arith)) in
-      rowAt-is 0 0 0 0 0 0 0 0 (sym (List·getD-eq-default rows 0 (omega arith))) (none 1) (none 2) (none 3) (none 4) (none 5) (none 6) (none 7)
+      rowAt-is 0 0 0 0 0 0 0 0 (sym (List·getD-eq-default rows 0 (omega arith))) (none 1) (none 2) (none 3) (none 4) (none 5) (none 6)
+      (none 7)

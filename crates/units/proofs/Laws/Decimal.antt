@@ -1,16 +1,18 @@
 -- Laws of specs/Decimal.antt, one for each way through a turn of the reading loop, at any limit.
 -- Assumes nothing.
 use mathlib.Core.Path.{_≡_, refl, _∙_}
-use mathlib.Core.Bool.{false}
+use mathlib.Core.Bool.{Bool, true, false, _&&_, cond}
 use mathlib.Core.List.{List, [], _∷_}
 use Prim.Native.Nat.{ℕ, suc, _+_, _*_, _-_, _≤_, _<_}
 use native.Mathlib.Numerals.{add-one}
 use native.Mathlib.Omega.{arith}
+use lib.Dec.{eqb, leb}
 use lib.ListN.{length, getD, take, drop}
 use lib.Seq.{drop-cons, drop-length, take-length}
-use borrow.Author.Tests.{le-leb, lt-leb, eq-eqb, ne-eqb}
+use borrow.Author.Tests.{le-leb, lt-leb, leb-true, eq-eqb, ne-eqb}
 use Rattle.laws.proofs.Bools.{and-false}
 use Rattle.laws.proofs.Numbers.{within-inside, within-below, within-above}
+use Rattle.units.specs.declared.decimal.Decimal.{Decimal}
 use Rattle.units.specs.declared.decimal.Decimal.the-variants.{Number, Bad}
 use Rattle.units.specs.Decimal.{isDigit, allDigits, valueFrom, numberFrom, digits, decimal}
 
@@ -72,3 +74,30 @@ pub decimal-bare : (most : ℕ) (s : List ℕ) → (length s ≡ 0 → ⊥) → 
 unfolding decimal
 decimal-bare most [] some h = absurd (some refl)
 decimal-bare most (b ∷ bs) some h = rw (ne-eqb b 43 h)
+
+-- a number that is read is at most `most`
+abbrev pub Within : ℕ → Decimal → Type 0
+Within most (Number n) = n ≤ most
+Within most Bad = Unit {0}
+
+numberFrom-within : (most value : ℕ) (s : List ℕ) → Within most (numberFrom most value s)
+numberFrom-within most value s = go (allDigits s) (leb (valueFrom value s) most) refl
+  where
+    go : (a b : Bool) → leb (valueFrom value s) most ≡ b → Within most (cond (a && b) (Number (valueFrom value s)) Bad)
+    go true true e = leb-true (valueFrom value s) most e
+    go true false e = tt
+    go false b e = tt
+
+digits-within : (most : ℕ) (s : List ℕ) → Within most (digits most s)
+unfolding digits
+digits-within most [] = tt
+digits-within most (b ∷ bs) = numberFrom-within most 0 (b ∷ bs)
+
+pub decimal-within : (most : ℕ) (s : List ℕ) → Within most (decimal most s)
+unfolding decimal
+decimal-within most [] = tt
+decimal-within most (b ∷ bs) = go (eqb b 43)
+  where
+    go : (t : Bool) → Within most (cond t (digits most bs) (digits most (b ∷ bs)))
+    go true = digits-within most bs
+    go false = digits-within most (b ∷ bs)

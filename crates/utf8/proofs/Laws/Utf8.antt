@@ -92,7 +92,9 @@ module _ (o r : Owed) (b : ℕ) (s : List ℕ) where
       rest zero = refl
       rest (suc n) = refl
 
-      by : (n : ℕ) → (n ≡ 0 → ⊥) → pays (owing (record { left = n - 1; low = 128; high = 191 })) s ≡ pays (owing (record { left = n; low = o .low; high = o .high })) (b ∷ s)
+      by : (n : ℕ) → (n ≡ 0 → ⊥)
+          → pays (owing (record { left = n - 1; low = 128; high = 191 })) s ≡ pays
+          (owing (record { left = n; low = o .low; high = o .high })) (b ∷ s)
       by zero h = absurd (h refl)
       by (suc n) h = let e : suc n - 1 ≡ n = omega arith in rw (e, within-inside (o .low) (o .high) b low high) (rest n)
 

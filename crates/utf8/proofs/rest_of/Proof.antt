@@ -58,19 +58,24 @@ returns-6 : tie.Need-returns-6
 returns-6 c = rw (c .due6 .ensures) (restOf-of-run _ 128 66 (c .before .before .before .before .args .byte) tt (omega arith) (omega arith))
 
 returns-7 : tie.Need-returns-7
-returns-7 c = rw (c .due7 .ensures) (restOf-of-run _ 194 30 (c .before .before .before .before .before .args .byte) tt (omega arith) (omega arith))
+returns-7 c = rw (c .due7 .ensures) (restOf-of-run _ 194 30 (c .before .before .before .before .before .args .byte) tt (omega arith)
+    (omega arith))
 
 returns-8 : tie.Need-returns-8
-returns-8 c = rw (c .due8 .ensures) (restOf-of-run _ 225 12 (c .before .before .before .before .before .before .args .byte) tt (omega arith) (omega arith))
+returns-8 c = rw (c .due8 .ensures) (restOf-of-run _ 225 12 (c .before .before .before .before .before .before .args .byte) tt (omega arith)
+    (omega arith))
 
 returns-9 : tie.Need-returns-9
-returns-9 c = rw (c .due9 .ensures) (restOf-of-run _ 238 2 (c .before .before .before .before .before .before .before .args .byte) tt (omega arith) (omega arith))
+returns-9 c = rw (c .due9 .ensures) (restOf-of-run _ 238 2 (c .before .before .before .before .before .before .before .args .byte) tt
+    (omega arith) (omega arith))
 
 returns-10 : tie.Need-returns-10
-returns-10 c = rw (c .due10 .ensures) (restOf-of-run _ 241 3 (c .before .before .before .before .before .before .before .before .args .byte) tt (omega arith) (omega arith))
+returns-10 c = rw (c .due10 .ensures) (restOf-of-run _ 241 3 (c .before .before .before .before .before .before .before .before .args .byte)
+    tt (omega arith) (omega arith))
 
 returns-11 : tie.Need-returns-11
-returns-11 c = rw (c .due11 .ensures) (restOf-high (c .before .before .before .before .before .before .before .before .args .byte) (omega arith))
+returns-11 c = rw (c .due11 .ensures) (restOf-high (c .before .before .before .before .before .before .before .before .args .byte)
+    (omega arith))
 
 pub rest-of-spec : {M : Type 1} → statement M
 rest-of-spec =

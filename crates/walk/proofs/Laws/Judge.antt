@@ -44,28 +44,32 @@ module _ (rows : List ℕ) (kind i : ℕ) (l : List ℕ) where
   firstBad-none past = rw (drop-of-length-le l {i = i} past)
 
 -- the references of an entry, as the code cuts them out
-pub refsAt-clipped : (rows refs : List ℕ) (e : ℕ) (row : Row) (s : Stretch) → row ≡ rowAt rows e → Clipped (row .first) (row .count) (length refs) s
+pub refsAt-clipped : (rows refs : List ℕ) (e : ℕ) (row : Row) (s : Stretch) → row ≡ rowAt rows e → Clipped (row .first) (row .count)
+    (length refs) s
     → take (s .left) (drop (s .at) refs) ≡ refsAt rows refs e
 refsAt-clipped rows refs e row s q h =
     let first = ap (λ (x : Row). x .first) q in
     let count = ap (λ (x : Row). x .count) q in
     rw (h .at, h .left, first, count) (stretch-clipped (rowAt rows e .count) (rowAt rows e .first) refs)
 
-module _ (rows refs : List ℕ) (e : ℕ) (row : Row) (ok : Bool) (is-row : row ≡ rowAt rows e) (is-ok : ok ≡ isIntegerWidth (row .number)) where
-  wide : (b : Bool) → eqb (row .kind) integer && not ok ≡ b → eqb (rowAt rows e .kind) integer && not (isIntegerWidth (rowAt rows e .number)) ≡ b
-  wide b h =
-      let kind = ap (λ (x : Row). x .kind) is-row in
-      let number = ap (λ (x : Row). x .number) is-row in
-      rw (is-ok, kind, number) at h
+module _ (rows refs : List ℕ) (e : ℕ) (row : Row) (ok : Bool) (is-row : row ≡ rowAt rows e) (is-ok : ok ≡ isIntegerWidth (row .number))
+  where
+    wide : (b : Bool) → eqb (row .kind) integer && not ok ≡ b → eqb (rowAt rows e .kind) integer && not
+        (isIntegerWidth (rowAt rows e .number)) ≡ b
+    wide b h =
+        let kind = ap (λ (x : Row). x .kind) is-row in
+        let number = ap (λ (x : Row). x .number) is-row in
+        rw (is-ok, kind, number) at h
 
-  pub ruleAt-width : eqb (row .kind) integer && not ok ≡ true → broken badWidth (row .number) ≡ ruleAt rows refs e
-  unfolding ruleAt
-  ruleAt-width h = let number = ap (λ (x : Row). x .number) is-row in rw (wide true h, number)
+    pub ruleAt-width : eqb (row .kind) integer && not ok ≡ true → broken badWidth (row .number) ≡ ruleAt rows refs e
+    unfolding ruleAt
+    ruleAt-width h = let number = ap (λ (x : Row). x .number) is-row in rw (wide true h, number)
 
-  pub ruleAt-refs : (s : Stretch) (v : Verdict) → eqb (row .kind) integer && not ok ≡ false → Clipped (row .first) (row .count) (length refs) s
-      → v ≡ firstBad rows (row .kind) 0 (take (s .at + s .left - s .at) (drop (s .at) refs)) → v ≡ ruleAt rows refs e
-  unfolding ruleAt
-  ruleAt-refs s v h cut is =
-      let kind = ap (λ (x : Row). x .kind) is-row in
-      let long : s .at + s .left - s .at ≡ s .left = omega arith in
-      rw (wide false h) (rw (long, refsAt-clipped rows refs e row s is-row cut, kind) at is)
+    pub ruleAt-refs : (s : Stretch) (v : Verdict) → eqb (row .kind) integer && not ok ≡ false → Clipped (row .first) (row .count)
+        (length refs) s
+        → v ≡ firstBad rows (row .kind) 0 (take (s .at + s .left - s .at) (drop (s .at) refs)) → v ≡ ruleAt rows refs e
+    unfolding ruleAt
+    ruleAt-refs s v h cut is =
+        let kind = ap (λ (x : Row). x .kind) is-row in
+        let long : s .at + s .left - s .at ≡ s .left = omega arith in
+        rw (wide false h) (rw (long, refsAt-clipped rows refs e row s is-row cut, kind) at is)

@@ -113,7 +113,11 @@ module _ (p ms : List ℕ) (e : ℕ) (h : Path p ms) (lt : e < length ms) (new :
   longer = length-append p (e ∷ [])
 
   pub Path-begun : (d : ℕ) → length p ≡ d → Path (p ++ e ∷ []) (set ms e (d + 1))
-  Path-begun d size = record { marked = λ i less. marked i (omega (arith, longer)) (ℕ-discrete i d); placed = λ x some few. placed x some few (ℕ-discrete x e) }
+  Path-begun d size = record {
+    marked = λ i less. marked i (omega (arith, longer)) (ℕ-discrete i d);
+    placed = λ x some few. placed x some
+        few (ℕ-discrete x e);
+  }
     where
       marked : (i : ℕ) → i < d + 1 → Dec (i ≡ d) → getD (set ms e (d + 1)) (getD (p ++ e ∷ []) i 0) 0 ≡ i + 1
       marked i less (yes q) = rw (q, getD-at p e [] 0 d size) (getD-set-same ms e (d + 1) 0 lt)

@@ -6,7 +6,8 @@ use mathlib.Core.Bool.{true, false}
 use mathlib.Core.List.{List, [], _∷_, _++_, map, append-nil, append-assoc}
 use Prim.Native.Nat.{ℕ, zero, suc, _+_, _-_, _≤_, _<_}
 use native.Mathlib.Omega.{arith}
-use lib.ListN.{length, getD, set, take, drop, length-map, length-append, length-replicate, length-drop, replicate-append-replicate, drop-of-length-le, List·getD-map}
+use lib.ListN.{length, getD, set, take, drop, length-map, length-append, length-replicate, length-drop, replicate-append-replicate}
+use lib.ListN.{drop-of-length-le, List·getD-map}
 use lib.Seq.{take-all, length-take-le, getD-drop, getD-append-add}
 use denote.Enum.Declared.{tagOf}
 use Rattle.table.specs.declared.Rank.{Rank}
@@ -24,7 +25,7 @@ use Rattle.walk.proofs.Walked.{the-type}
 use Rattle.walk.specs.declared.Walked.the-variants as walked
 use Rattle.walk.specs.Answers.{numberIn, detailIn, cycle, paperOf, paperIn, accepted, refused}
 use Rattle.walk.specs.Resolve.{witnessIn, Resolves}
-use Rattle.walk.specs.Marks.{finished, plain, plainly, ranked, Path, Ready, RankKept, Kept, RingShown, Shows}
+use Rattle.walk.specs.Marks.{finished, plain, plainly, ranked, Path, Ready, RankKept, Kept, RingShown, Shows, EntryWalked}
 use Rattle.walk.proofs.Laws.Marks.{plain-begun, plain-ranked, plain-new, Path-none, Path-kept, plainly-zeros}
 use Rattle.walk.proofs.Laws.Ready.{ready-first, ready-again}
 use Rattle.walk.proofs.Laws.Rings.{ring-whole}
@@ -71,32 +72,34 @@ module _ (rows refs ms₀ : List ℕ) (n : ℕ) (ms : List ℕ) (i : ℕ) (h : P
 
   -- entry i is resolved
   module _ (lt : i < n) (l : List ℕ) (a : Walked) (len : length l ≡ length ms)
-      (call : Kept a ms l 0 1 × ((f : ℕ) (p : List ℕ) → unstarted ms ≤ f → length p ≡ 0 → Path p ms → Shows p l a (entry f (tableOf rows refs (length ms)) p (plainly ms) i))) where
+      (call : EntryWalked rows refs ms 0 i l a) where
     shown : Shows [] l a (entry n (tableOf rows refs n) [] (plainly ms) i)
     shown =
         let same : length ms ≡ n = h .sized ∙ sym (h .count) in
-        rw same at (call .1 n [] (omega (arith, unstarted-le-length ms)) refl (h .path))
+        rw same at (call .shows n [] (omega (arith, unstarted-le-length ms)) refl (h .path))
 
-    next : resolve (tableOf rows refs n) ≡ andThen (entry n (tableOf rows refs n) [] (plainly ms) i) (λ m k. upward n (tableOf rows refs n) m (suc i) (n - suc i))
+    next : resolve (tableOf rows refs n) ≡ andThen (entry n (tableOf rows refs n) [] (plainly ms) i)
+        (λ m k. upward n (tableOf rows refs n) m (suc i) (n - suc i))
     unfolding upward
     next = let one : n - i ≡ suc (n - suc i) = omega arith in sym (rw one at (h .rest))
 
     pub Passing-stops : (tagOf the-type a ≡ 1) ⊎ (tagOf the-type a ≡ 2) → Shows [] l a (resolve (tableOf rows refs (length ms₀)))
     Passing-stops s =
         rw (← h .count, next)
-        (shows-stop [] l a (entry n (tableOf rows refs n) [] (plainly ms) i) (λ m k. upward n (tableOf rows refs n) m (suc i) (n - suc i)) s shown)
+        (shows-stop [] l a (entry n (tableOf rows refs n) [] (plainly ms) i) (λ m k. upward n (tableOf rows refs n) m (suc i) (n - suc i))
+        s shown)
 
     pub Passing-more : tagOf the-type a ≡ 0 → Passing rows refs ms₀ n l (i + 1)
     Passing-more s =
         let r = rank-of a s in
         let one : i + 1 ≡ suc i = omega arith in
         let got = shows-rank [] l a (r .0) (entry n (tableOf rows refs n) [] (plainly ms) i) (r .1) shown in
-        let kept : RankKept ms l 0 (r .0 .0 + 1) = rw (r .1) at (call .0) in
+        let kept : RankKept ms l 0 (r .0 .0 + 1) = rw (r .1) at (call .kept) in
         record {
           count = h .count;
           sized = len ∙ h .sized;
           within = omega arith;
-          ready = ready-again a ms l s (call .0);
+          ready = ready-again a ms l s (call .kept);
           path = Path-kept [] ms l 0 (r .0 .0 + 1) kept (h .path);
           rest = rw one (sym (rw got at next));
         }
@@ -121,7 +124,8 @@ module _ (ms₀ : List ℕ) (i : ℕ) (ms : List ℕ) (h : Laid (map ranked ms�
   pub settle-more : i < length ms → (v : ℕ) → v ≡ getD ms i 0 - finished → Laid (map ranked ms₀) ms₀ (i + 1) (set ms i v)
   settle-more lt v is =
       let same = untouched (omega (arith, h .long)) in
-      Laid-more (map ranked ms₀) ms₀ i v ms h (omega (arith, long, h .long)) (omega (arith, h .long)) (is ∙ (rw same (sym (List·getD-map ranked ms₀ i 0))))
+      Laid-more (map ranked ms₀) ms₀ i v ms h (omega (arith, long, h .long)) (omega (arith, h .long))
+      (is ∙ (rw same (sym (List·getD-map ranked ms₀ i 0))))
 
   pub settle-done : length ms ≤ i → ms ≡ map ranked ms₀
   settle-done le = Laid-done (map ranked ms₀) ms₀ i ms h (omega (arith, long, h .long)) ∙ over-whole (map ranked ms₀) ms₀ long

@@ -36,8 +36,13 @@ module _ (ms : List ℕ) (e d : ℕ) (lt : e < length ms) (new : getD ms e 0 ≡
   pub depth-few : d + 1 ≤ maxEntries
   depth-few = omega (arith, h .room, h .few, fewer)
 
-  pub ready-begun : Ready (set ms e (d + 1)) (d + 1) (0 + (d + 1))
-  ready-begun = record { few = simp length-set (h .few); room = simp length-set (omega (arith, h .room, fewer)); low = λ x. low x (ℕ-discrete x e) }
+  pub ready-begun : Ready (set ms e (d + 1)) (d + 1) (d + 1)
+  ready-begun = record {
+    few = simp length-set (h .few);
+    room = simp length-set (omega (arith, h .room, fewer));
+    low = λ x. low x
+        (ℕ-discrete x e);
+  }
     where
       low : (x : ℕ) → Dec (x ≡ e) → maxEntries < getD (set ms e (d + 1)) x 0
           → getD (set ms e (d + 1)) x 0 + (d + 1) + unstarted (set ms e (d + 1)) < length (set ms e (d + 1)) + finished
@@ -98,6 +103,12 @@ RankKept-trans p q = record {
   begun = λ x some few. let s = q .begun x some few in s ∙ p .begun x (rw s at some) (rw s at few);
 }
 
+-- the same where more is known of what it may go on with
+pub RankKept-next : {a b c : List ℕ} {d n m k : ℕ} → RankKept a b d n → RankKept b c d m → Ready c d k → RankKept a c d k
+RankKept-next p q r =
+    let t = RankKept-trans p q in
+    record { fewer = t .fewer; ready = r; same = t .same; begun = t .begun }
+
 -- no reference is left
 pub kept-none : (ms : List ℕ) (d c : ℕ) → Ready ms d c → RankKept ms ms d c
 kept-none ms d c h = record { fewer = omega arith; ready = h; same = λ x some. refl; begun = λ x some few. refl }
@@ -114,10 +125,16 @@ ready-enter ms d best h = record { few = h .few; room = omega (arith, h .room); 
 pub ready-first : (n : ℕ) (ms : List ℕ) → ms ≡ replicate n 0 → n ≤ maxEntries → Ready ms 0 0
 ready-first n ms q h =
     let len : length ms ≡ n = rw q (length-replicate n 0) in
-    record { few = omega arith; room = omega (arith, unstarted-le-length ms); low = λ x big. let z : getD ms x 0 ≡ 0 = rw q (getD-zeros n x) in absurd (omega arith) }
+    record {
+      few = omega arith;
+      room = omega (arith, unstarted-le-length ms);
+      low = λ x big. let z : getD ms x 0 ≡ 0 = rw q
+          (getD-zeros n x) in absurd (omega arith);
+    }
 
 -- by the answer
-pub kept-rank : (a : Walked) (r : Rank) (before after : List ℕ) (d c : ℕ) → a ≡ Ranked r → Kept a before after d c → RankKept before after d (r .0 + c)
+pub kept-rank : (a : Walked) (r : Rank) (before after : List ℕ) (d c : ℕ) → a ≡ Ranked r → Kept a before after d c
+    → RankKept before after d (r .0 + c)
 kept-rank a r before after d c p h = rw p at h
 
 pub kept-refused : (a : Walked) (b1 b2 l1 l2 : List ℕ) (d1 d2 c1 c2 : ℕ) → tagOf the-type a ≡ 2 → Kept a b1 l1 d1 c1 → Kept a b2 l2 d2 c2
@@ -125,7 +142,8 @@ kept-refused (Ranked k) b1 b2 l1 l2 d1 d2 c1 c2 s h = absurd (omega arith)
 kept-refused (Ring k from n) b1 b2 l1 l2 d1 d2 c1 c2 s h = tt
 kept-refused (Refused e f) b1 b2 l1 l2 d1 d2 c1 c2 s h = tt
 
-pub kept-stop : (a : Walked) (before after : List ℕ) (d c1 c2 : ℕ) → (tagOf the-type a ≡ 1) ⊎ (tagOf the-type a ≡ 2) → Kept a before after d c1 → Kept a before after d c2
+pub kept-stop : (a : Walked) (before after : List ℕ) (d c1 c2 : ℕ) → (tagOf the-type a ≡ 1) ⊎ (tagOf the-type a ≡ 2)
+    → Kept a before after d c1 → Kept a before after d c2
 kept-stop (Ranked k) before after d c1 c2 (inl s) h = absurd (omega arith)
 kept-stop (Ranked k) before after d c1 c2 (inr s) h = absurd (omega arith)
 kept-stop (Ring k from n) before after d c1 c2 s h = tt

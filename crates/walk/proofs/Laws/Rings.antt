@@ -4,7 +4,8 @@ use mathlib.Core.Path.{_≡_, refl, sym, ap, _∙_}
 use mathlib.Core.List.{List, [], _∷_, _++_, append-nil, append-assoc}
 use Prim.Native.Nat.{ℕ, zero, suc, _+_, _-_, _≤_, _<_}
 use native.Mathlib.Omega.{arith}
-use lib.ListN.{length, getD, set, drop, length-append, length-drop, length-set, length-replicate, drop-of-length-le, replicate-append-replicate}
+use lib.ListN.{length, getD, set, drop, length-append, length-drop, length-set, length-replicate, drop-of-length-le}
+use lib.ListN.{replicate-append-replicate}
 use lib.Seq.{drop-append-le, drop-at, getD-at, getD-drop}
 use Rattle.table.specs.Buffers.{zeros, padded}
 use Rattle.ranks.specs.Walk as ranks

@@ -25,7 +25,8 @@ use Rattle.walk.proofs.Walked.{the-type}
 use Rattle.walk.specs.declared.Walked.the-variants.{Ranked, Ring, Refused}
 use Rattle.walk.specs.Answers.{numberIn, detailIn, verdictOf}
 use Rattle.walk.specs.Marks.{finished, plain, plainly, Path, RingShown, Shows, Finished}
-use Rattle.walk.proofs.Laws.Marks.{plain-new, plain-begun, plain-ranked, plain-finished, getD-plainly, set-plainly, unstarted-begun, from-path}
+use Rattle.walk.proofs.Laws.Marks.{plain-new, plain-begun, plain-ranked, plain-finished, getD-plainly, set-plainly}
+use Rattle.walk.proofs.Laws.Marks.{unstarted-begun, from-path}
 use Rattle.walk.proofs.Laws.Rings.{ring-met}
 
 -- the own rule
@@ -59,7 +60,8 @@ andThen-bad o next n e r q = go (o .marks) (o .answer) q
     go : (l : List ℕ) (a : ranks.Answer) → a ≡ ranks.Bad n e r → onRank a (out l a) (next l) .answer ≡ ranks.Bad n e r
     go l a q = rw q
 
-ring-onward : (p l : List ℕ) (k from n : ℕ) (o : Out) (next : List ℕ → ℕ → Out) → RingShown p l k from n (o .answer) → RingShown p l k from n (andThen o next .answer)
+ring-onward : (p l : List ℕ) (k from n : ℕ) (o : Out) (next : List ℕ → ℕ → Out) → RingShown p l k from n (o .answer)
+    → RingShown p l k from n (andThen o next .answer)
 ring-onward p l k from n o next h = record {
   more = h .more;
   is = andThen-ring o next (drop from p ++ h .more) (h .is);
@@ -84,7 +86,8 @@ shows-refused p q l (Refused e f) o s h = h
 pub shows-rank : (p l : List ℕ) (a : Walked) (r : Rank) (o : Out) → a ≡ Ranked r → Shows p l a o → o ≡ out (plainly l) (ranks.Rank (r .0))
 shows-rank p l a r o q h = rw q at h
 
-pub shows-ring : (p l : List ℕ) (a : Walked) (k from n : ℕ) (o : Out) → a ≡ Ring k from n → Shows p l a o → RingShown p l k from n (o .answer)
+pub shows-ring : (p l : List ℕ) (a : Walked) (k from n : ℕ) (o : Out) → a ≡ Ring k from n → Shows p l a o
+    → RingShown p l k from n (o .answer)
 shows-ring p l a k from n o q h = rw q at h
 
 by-ranked : (m : ℕ) (a b : Out) (done : ℕ → Out) → maxEntries < m → byMark (plain m) a b done ≡ done (m - finished)
@@ -95,19 +98,23 @@ by-begun m a b done n h = rw (plain-begun m n h)
 
 module _ (t : Table) (p ms : List ℕ) (e : ℕ) where
   -- an entry that is finished
-  pub entry-ranked : (r : Rank) → r .0 ≡ getD ms e 0 - finished → maxEntries < getD ms e 0 → (f : ℕ) → Shows p ms (Ranked r) (entry f t p (plainly ms) e)
+  pub entry-ranked : (r : Rank) → r .0 ≡ getD ms e 0 - finished → maxEntries < getD ms e 0 → (f : ℕ)
+      → Shows p ms (Ranked r) (entry f t p (plainly ms) e)
   unfolding entry
   entry-ranked r q big zero = rw (getD-plainly ms e, q) (by-ranked (getD ms e 0) _ _ (λ k. out (plainly ms) (ranks.Rank k)) big)
   entry-ranked r q big (suc f) = rw (getD-plainly ms e, q) (by-ranked (getD ms e 0) _ _ (λ k. out (plainly ms) (ranks.Rank k)) big)
 
   -- an entry that is on the path
-  pub entry-begun : (getD ms e 0 ≡ 0 → ⊥) → getD ms e 0 ≤ maxEntries → (f : ℕ) → entry f t p (plainly ms) e ≡ out (plainly ms) (ranks.Ring (from e p))
+  pub entry-begun : (getD ms e 0 ≡ 0 → ⊥) → getD ms e 0 ≤ maxEntries → (f : ℕ) → entry f t p (plainly ms) e ≡ out (plainly ms)
+      (ranks.Ring (from e p))
   unfolding entry
   entry-begun n few zero = rw (getD-plainly ms e) (by-begun (getD ms e 0) _ _ _ n few)
   entry-begun n few (suc f) = rw (getD-plainly ms e) (by-begun (getD ms e 0) _ _ _ n few)
 
-  pub entry-again : (d : ℕ) (l : List ℕ) (len : ℕ) → (getD ms e 0 ≡ 0 → ⊥) → getD ms e 0 ≤ maxEntries → length p ≡ d → d ≤ length ms → Path p ms
-      → l ≡ zeros (length ms) → len ≡ d - (getD ms e 0 - 1) → (f : ℕ) → Shows p l (Ring e (getD ms e 0 - 1) len) (entry f t p (plainly ms) e)
+  pub entry-again : (d : ℕ) (l : List ℕ) (len : ℕ) → (getD ms e 0 ≡ 0 → ⊥) → getD ms e 0 ≤ maxEntries → length p ≡ d → d ≤ length ms
+      → Path p ms
+      → l ≡ zeros (length ms) → len ≡ d - (getD ms e 0 - 1) → (f : ℕ) → Shows p l (Ring e (getD ms e 0 - 1) len)
+      (entry f t p (plainly ms) e)
   entry-again d l len n few size le path cleared long f =
       let some : 0 < getD ms e 0 = positive (getD ms e 0) n in
       let w = path .placed e some few in
@@ -120,7 +127,8 @@ module _ (t : Table) (p ms : List ℕ) (e : ℕ) where
   -- an entry that is begun now
   pub entry-starts : (d : ℕ) → getD ms e 0 ≡ 0 → e < length ms → d + 1 ≤ maxEntries → (f : ℕ) → unstarted ms ≤ f
       → (g : ℕ) × (unstarted (set ms e (d + 1)) ≤ g)
-      × (entry f t p (plainly ms) e ≡ andThen (stretch t (entry g t (p ++ e ∷ [])) e (plainly (set ms e (d + 1))) 0 (t .refs e)) (finish t e))
+      × (entry f t p (plainly ms) e ≡ andThen (stretch t (entry g t (p ++ e ∷ [])) e (plainly (set ms e (d + 1))) 0 (t .refs e))
+      (finish t e))
   unfolding entry
   entry-starts d new lt few zero le = let b = unstarted-begun ms e d lt new in absurd (omega arith)
   entry-starts d new lt few (suc f) le =
@@ -130,7 +138,8 @@ module _ (t : Table) (p ms : List ℕ) (e : ℕ) where
       (f, omega arith, rw (at, put))
 
 module _ (t : Table) (g : List ℕ → ℕ → Out) (p ms : List ℕ) (e best : ℕ) (refs : List ℕ) (at left : ℕ) where
-  pub stretch-none : (r : Rank) → r .0 ≡ best → left ≡ 0 → Shows p ms (Ranked r) (stretch t g e (plainly ms) best (take left (drop at refs)))
+  pub stretch-none : (r : Rank) → r .0 ≡ best → left ≡ 0
+      → Shows p ms (Ranked r) (stretch t g e (plainly ms) best (take left (drop at refs)))
   unfolding stretch
   stretch-none r q h = rw (h, q)
 
@@ -138,13 +147,15 @@ module _ (t : Table) (g : List ℕ → ℕ → Out) (p ms : List ℕ) (e best : 
     cons : take left (drop at refs) ≡ getD refs at 0 ∷ take (left - 1) (drop (at + 1) refs)
     cons = stretch-cons left at refs (omega arith) inside
 
-    pub stretch-range : t .count ≤ getD refs at 0 → Shows p ms (Refused e (OutOfRange (getD refs at 0))) (stretch t g e (plainly ms) best (take left (drop at refs)))
+    pub stretch-range : t .count ≤ getD refs at 0 → Shows p ms (Refused e (OutOfRange (getD refs at 0)))
+        (stretch t g e (plainly ms) best (take left (drop at refs)))
     unfolding stretch
     stretch-range past = rw (cons, le-ltb _ _ past)
 
     module _ (lt : getD refs at 0 < t .count) where
       pub stretch-past : t .counts e (getD refs at 0) ≡ false
-          → stretch t g e (plainly ms) best (take left (drop at refs)) ≡ stretch t g e (plainly ms) best (take (left - 1) (drop (at + 1) refs))
+          → stretch t g e (plainly ms) best (take left (drop at refs)) ≡ stretch t g e (plainly ms) best
+          (take (left - 1) (drop (at + 1) refs))
       unfolding stretch
       stretch-past c = rw (cons, lt-ltb _ _ lt, c)
 
@@ -162,6 +173,7 @@ module _ (t : Table) (g : List ℕ → ℕ → Out) (p ms : List ℕ) (e best : 
 
         pub stretch-goes : (l : List ℕ) (a : Walked) (r : Rank) (next : ℕ) → a ≡ Ranked r → next ≡ max best (r .0 + 1)
             → Shows p l a (g (plainly ms) (getD refs at 0))
-            → stretch t g e (plainly ms) best (take left (drop at refs)) ≡ stretch t g e (plainly l) next (take (left - 1) (drop (at + 1) refs))
+            → stretch t g e (plainly ms) best (take left (drop at refs)) ≡ stretch t g e (plainly l) next
+            (take (left - 1) (drop (at + 1) refs))
         unfolding more
         stretch-goes l a r next q m h = first ∙ rw (shows-rank p l a r (g (plainly ms) (getD refs at 0)) q h, m)

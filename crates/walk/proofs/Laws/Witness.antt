@@ -32,7 +32,8 @@ plain-rank m = go (ltb 0 m) refl (leb m maxEntries) refl
   where
     go : (some : Bool) → ltb 0 m ≡ some → (few : Bool) → leb m maxEntries ≡ few → plain m - 2 ≡ ranked m
     go false s few f = let z : m ≡ 0 = omega (arith, ltb-false 0 m s) in rw (z, plain-new)
-    go true s true f = let p = plain-begun m (λ z. omega (arith, ltb-true 0 m s)) (leb-true m maxEntries f) in omega (arith, leb-true m maxEntries f)
+    go true s true f = let p = plain-begun m (λ z. omega (arith, ltb-true 0 m s)) (leb-true m maxEntries f) in omega
+        (arith, leb-true m maxEntries f)
     go true s false f = let p = plain-ranked m (leb-false m maxEntries f) in omega arith
 
 pub ranksOf-plainly : (l : List ℕ) → ranksOf (plainly l) ≡ map ranked l
@@ -47,31 +48,33 @@ padded-none : (n : ℕ) → padded n [] ≡ zeros n
 unfolding padded
 padded-none n = let z : n - 0 ≡ n = omega arith in rw z
 
-module _ (rows refs : List ℕ) (n : ℕ) (l : List ℕ) (a : Walked) (len : length l ≡ n) (h : Shows [] l a (resolve (tableOf rows refs n))) where
-  pub resolves-accepted : tagOf the-type a ≡ 0 → (w : List ℕ) → w ≡ map ranked l → Resolves rows refs n n Accepted w
-  resolves-accepted s w is = go a s h
-    where
-      go : (a : Walked) → tagOf the-type a ≡ 0 → Shows [] l a (resolve (tableOf rows refs n)) → Resolves rows refs n n Accepted w
-      go (walked.Ranked r) s h = record {
-        answer = rw h;
-        content = is ∙ rw (h, ranksOf-plainly l) (sym (padded-whole (map ranked l) n (length-map l ranked ∙ len)));
-      }
-      go (walked.Ring k from m) s h = absurd (omega arith)
-      go (walked.Refused e f) s h = absurd (omega arith)
+module _ (rows refs : List ℕ) (n : ℕ) (l : List ℕ) (a : Walked) (len : length l ≡ n) (h : Shows [] l a (resolve (tableOf rows refs n)))
+  where
+    pub resolves-accepted : tagOf the-type a ≡ 0 → (w : List ℕ) → w ≡ map ranked l → Resolves rows refs n n Accepted w
+    resolves-accepted s w is = go a s h
+      where
+        go : (a : Walked) → tagOf the-type a ≡ 0 → Shows [] l a (resolve (tableOf rows refs n)) → Resolves rows refs n n Accepted w
+        go (walked.Ranked r) s h = record {
+          answer = rw h;
+          content = is ∙ rw (h, ranksOf-plainly l) (sym (padded-whole (map ranked l) n (length-map l ranked ∙ len)));
+        }
+        go (walked.Ring k from m) s h = absurd (omega arith)
+        go (walked.Refused e f) s h = absurd (omega arith)
 
-  pub resolves-cycle : (k from m : ℕ) → a ≡ walked.Ring k from m → Resolves rows refs n n (Cycle k m) l
-  resolves-cycle k from m q =
-      let r : RingShown [] l k from m (resolve (tableOf rows refs n) .answer) = rw q at h in
-      let w = ring-whole l k from m (resolve (tableOf rows refs n) .answer) r in
-      record {
-        answer = rw (w .1, w .2, w .3);
-        content = rw (w .1) (rw len at (w .4));
-      }
+    pub resolves-cycle : (k from m : ℕ) → a ≡ walked.Ring k from m → Resolves rows refs n n (Cycle k m) l
+    resolves-cycle k from m q =
+        let r : RingShown [] l k from m (resolve (tableOf rows refs n) .answer) = rw q at h in
+        let w = ring-whole l k from m (resolve (tableOf rows refs n) .answer) r in
+        record {
+          answer = rw (w .1, w .2, w .3);
+          content = rw (w .1) (rw len at (w .4));
+        }
 
-  pub resolves-refused : (e : ℕ) (f : Fault) → a ≡ walked.Refused e f → (w : List ℕ) → w ≡ zeros (length l) → Resolves rows refs n n (Refused e f) w
-  resolves-refused e f q w is =
-      let b : resolve (tableOf rows refs n) .answer ≡ ranks.Bad (numberIn f) e (detailIn f) = rw q at h in
-      record { answer = rw b; content = is ∙ rw (b, len) (sym (padded-none n)) }
+    pub resolves-refused : (e : ℕ) (f : Fault) → a ≡ walked.Refused e f → (w : List ℕ) → w ≡ zeros (length l)
+        → Resolves rows refs n n (Refused e f) w
+    resolves-refused e f q w is =
+        let b : resolve (tableOf rows refs n) .answer ≡ ranks.Bad (numberIn f) e (detailIn f) = rw q at h in
+        record { answer = rw b; content = is ∙ rw (b, len) (sym (padded-none n)) }
 
 -- a longer witness
 padded-longer : (xs : List ℕ) (n room : ℕ) → length xs ≤ n → n ≤ room → padded n xs ++ zeros (room - n) ≡ padded room xs
@@ -84,12 +87,17 @@ padded-short : (xs : List ℕ) (n : ℕ) → length (padded n xs) ≡ n → leng
 unfolding padded
 padded-short xs n h = let w = simp length-append at h in omega arith
 
-pub resolves-longer : (rows refs : List ℕ) (n room : ℕ) (r : Resolution) (last all : List ℕ) → Resolves rows refs n n r last → length last ≡ n → n ≤ room
+pub resolves-longer : (rows refs : List ℕ) (n room : ℕ) (r : Resolution) (last all : List ℕ) → Resolves rows refs n n r last
+    → length last ≡ n → n ≤ room
     → all ≡ last ++ zeros (room - n) → Resolves rows refs n room r all
 resolves-longer rows refs n room r last all h len le is =
     let xs = witnessIn (resolve (tableOf rows refs n)) in
     let short = padded-short xs n (sym (ap length (h .content)) ∙ len) in
-    record { answer = h .answer; content = is ∙ (ap (λ (x : List ℕ). x ++ zeros (room - n)) (h .content) ∙ padded-longer xs n room short le) }
+    record {
+      answer = h .answer;
+      content = is ∙ (ap (λ (x : List ℕ). x ++ zeros (room - n)) (h .content)
+          ∙ padded-longer xs n room short le);
+    }
 
 take-zeros : (n room : ℕ) → n ≤ room → take n (zeros room) ≡ zeros n
 take-zeros zero zero h = refl
@@ -119,7 +127,8 @@ module _ (count words room n : ℕ) (z : List ℕ) (asked : n ≡ entriesOf coun
   pub lent-fresh : take n z ≡ zeros (length (take n z))
   lent-fresh = rw lent-length part
 
-  pub resolves-lent : (rows refs : List ℕ) (r : Resolution) (last : List ℕ) → Resolves rows refs (length (take n z)) (length (take n z)) r last → length last ≡ length (take n z)
+  pub resolves-lent : (rows refs : List ℕ) (r : Resolution) (last : List ℕ) → Resolves rows refs (length (take n z))
+      (length (take n z)) r last → length last ≡ length (take n z)
       → Resolves rows refs (entriesOf count words room) room r (last ++ drop n z)
   resolves-lent rows refs r last h len =
       let w = rw lent-length at h in

@@ -21,7 +21,8 @@ returns : tie.Need-returns Inv-loop μ-loop
 returns c =
     let s = c .before .before .before .before .before .before .before .before .args in
     let at-loop = c .before .before .before .before .loop in
-    sym (at-loop .inv .1 ∙ every-miss (refers (s .rows .now) (s .ranks .now) (s .n) (s .e .0)) (at-loop .i) (s .stretch .now) (c .before .before .before .loop-test .taken)
+    sym (at-loop .inv .1 ∙ every-miss (refers (s .rows .now) (s .ranks .now) (s .n) (s .e .0)) (at-loop .i) (s .stretch .now)
+    (c .before .before .before .loop-test .taken)
     (sym (c .before .is-reference .ensures) ∙ not-true _ (c .if1 .taken)))
 
 loop-again : tie.Need-loop-again Inv-loop μ-loop
@@ -29,7 +30,8 @@ loop-again c =
     let s = c .before .before .before .before .before .before .before .before .args in
     let at-loop = c .before .before .before .before .loop in (
       search needs,
-      at-loop .inv .1 ∙ every-hit (refers (s .rows .now) (s .ranks .now) (s .n) (s .e .0)) (at-loop .i) (s .stretch .now) (c .before .before .before .loop-test .taken)
+      at-loop .inv .1 ∙ every-hit (refers (s .rows .now) (s .ranks .now) (s .n) (s .e .0)) (at-loop .i) (s .stretch .now)
+          (c .before .before .before .loop-test .taken)
           (sym (c .before .is-reference .ensures) ∙ not-false _ (c .if1 .left)),
     )
 
@@ -37,7 +39,8 @@ returns-2 : tie.Need-returns-2 Inv-loop μ-loop
 returns-2 c =
     let s = c .before .before .before .before .before .args in
     let at-loop = c .before .loop in
-    sym (at-loop .inv .1 ∙ every-end (refers (s .rows .now) (s .ranks .now) (s .n) (s .e .0)) (at-loop .i) (s .stretch .now) (c .loop-test .left) (at-loop .inv .0))
+    sym (at-loop .inv .1 ∙ every-end (refers (s .rows .now) (s .ranks .now) (s .n) (s .e .0)) (at-loop .i) (s .stretch .now)
+    (c .loop-test .left) (at-loop .inv .0))
 
 pub are-references-spec : {M : Type 1} → statement M
 are-references-spec =

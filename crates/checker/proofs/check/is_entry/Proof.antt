@@ -11,14 +11,21 @@ use Rattle.checker.proofs.check.is_entry.Tie as tie
 returns : tie.Need-returns
 returns c =
     let s = c .before .before .before .before .before .args in
-    entryOk-row (s .rows .now) (s .refs .now) (s .bytes) (s .ranks .now) (s .n) (s .e) (s .r) (s .k) (sym (c .before .is-row .ensures) ∙ not-true _ (c .if1 .taken))
+    entryOk-row (s .rows .now) (s .refs .now) (s .bytes) (s .ranks .now) (s .n) (s .e) (s .r) (s .k) (sym (c .before .is-row .ensures)
+    ∙ not-true _ (c .if1 .taken))
 
 is-lawful-requires : tie.Need-is-lawful-requires
 is-lawful-requires c κs =
     let s = c .before .before .before .before .before in
     let a = s .args in
-    let ok = sym (c .before .is-row .ensures) ∙ not-false _ (c .if1 .left) in
-    (s .pre .0, (s .pre .1 .0, rowOk-fits (a .rows .now) (length (a .refs .now)) (a .bytes) (a .e) (a .r) (a .k) (s .pre .1 .1 .0) (s .pre .1 .1 .1) ok .inside))
+    let ok = sym (c .before .is-row .ensures) ∙ not-false _ (c .if1 .left) in (
+      s .pre .0,
+      (
+        s .pre .1 .0,
+        rowOk-fits (a .rows .now) (length (a .refs .now)) (a .bytes) (a .e) (a .r) (a .k) (s .pre .1 .1 .0)
+            (s .pre .1 .1 .1) ok .inside,
+      ),
+    )
 
 returns-2 : tie.Need-returns-2
 returns-2 c =

@@ -11,7 +11,8 @@ returns c =
     let s = c .before .before .before .before .before .before .before .args in
     let row = c .before .before .before .row-at in
     let width = c .before .is-integer-width in
-    lawful-width (s .rows .now) (s .e) (row .result) (row .ensures) (s .refs .now) (s .ranks .now) (s .n) (width .result) (width .ensures) (c .if1 .taken)
+    lawful-width (s .rows .now) (s .e) (row .result) (row .ensures) (s .refs .now) (s .ranks .now) (s .n) (width .result) (width .ensures)
+    (c .if1 .taken)
 
 returns-2 : tie.Need-returns-2
 returns-2 c =
@@ -28,10 +29,20 @@ is-lawful-spec =
     (λ c κs. search needs)
     (λ c κs. search needs)
     returns
-    (λ c. let s = c .before .before .before .before .before .before .before in let row = c .before .before .before .row-at in let h = row-inside (s .args .rows .now) (s .args .e) (row .result) (row .ensures) (length (s .args .refs .now)) (s .pre .1 .1) in search needs)
-    (λ c. let s = c .before .before .before .before .before .before .before in let row = c .before .before .before .row-at in let h = row-inside (s .args .rows .now) (s .args .e) (row .result) (row .ensures) (length (s .args .refs .now)) (s .pre .1 .1) in search needs)
-    (λ c. let s = c .before .before .before .before .before .before .before in let row = c .before .before .before .row-at in let h = row-inside (s .args .rows .now) (s .args .e) (row .result) (row .ensures) (length (s .args .refs .now)) (s .pre .1 .1) in search needs)
-    (λ c. let s = c .before .before .before .before .before .before .before in let row = c .before .before .before .row-at in let h = row-inside (s .args .rows .now) (s .args .e) (row .result) (row .ensures) (length (s .args .refs .now)) (s .pre .1 .1) in search needs)
-    (λ c. let s = c .before .before .before .before .before .before .before in let row = c .before .before .before .row-at in let h = row-inside (s .args .rows .now) (s .args .e) (row .result) (row .ensures) (length (s .args .refs .now)) (s .pre .1 .1) in search needs)
+    (λ c. let s = c .before .before .before .before .before .before .before in let row = c .before .before .before .row-at in let
+    h = row-inside (s .args .rows .now) (s .args .e) (row .result) (row .ensures) (length (s .args .refs .now))
+    (s .pre .1 .1) in search needs)
+    (λ c. let s = c .before .before .before .before .before .before .before in let row = c .before .before .before .row-at in let
+    h = row-inside (s .args .rows .now) (s .args .e) (row .result) (row .ensures) (length (s .args .refs .now))
+    (s .pre .1 .1) in search needs)
+    (λ c. let s = c .before .before .before .before .before .before .before in let row = c .before .before .before .row-at in let
+    h = row-inside (s .args .rows .now) (s .args .e) (row .result) (row .ensures) (length (s .args .refs .now))
+    (s .pre .1 .1) in search needs)
+    (λ c. let s = c .before .before .before .before .before .before .before in let row = c .before .before .before .row-at in let
+    h = row-inside (s .args .rows .now) (s .args .e) (row .result) (row .ensures) (length (s .args .refs .now))
+    (s .pre .1 .1) in search needs)
+    (λ c. let s = c .before .before .before .before .before .before .before in let row = c .before .before .before .row-at in let
+    h = row-inside (s .args .rows .now) (s .args .e) (row .result) (row .ensures) (length (s .args .refs .now))
+    (s .pre .1 .1) in search needs)
     (λ c κs. search needs)
     returns-2)

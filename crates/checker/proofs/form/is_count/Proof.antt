@@ -15,7 +15,8 @@ returns-3 c =
     rw (
       ne-eqb kind function (rest .0 .0 .1),
       ne-eqb kind struct (rest .0 .1),
-      ⊎-elim (λ w. within-below pointer scalableVector kind (omega arith)) (λ w. within-above pointer scalableVector kind (omega arith)) (c .if1 .came),
+      ⊎-elim (λ w. within-below pointer scalableVector kind (omega arith)) (λ w. within-above pointer scalableVector kind (omega arith))
+          (c .if1 .came),
     )
 
 -- a pointer, or behind the structs

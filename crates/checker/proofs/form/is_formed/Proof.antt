@@ -14,4 +14,9 @@ is-formed-spec =
     (λ c κs. search needs)
     (λ c κs. search needs)
     (λ c κs. search needs)
-    (λ c. rw (c .before .before .before .before .before .is-number .ensures, c .before .before .before .before .is-flag .ensures, c .before .before .before .is-count .ensures, c .before .before .is-named .ensures)))
+    (λ c. rw (
+      c .before .before .before .before .before .is-number .ensures,
+      c .before .before .before .before .is-flag .ensures,
+      c .before .before .before .is-count .ensures,
+      c .before .before .is-named .ensures,
+    )))

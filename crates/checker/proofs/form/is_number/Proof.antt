@@ -18,7 +18,11 @@ returns-3 : tie.Need-returns-3
 returns-3 c =
     let kind = c .before .before .before .args .kind in
     let rest = c .before .before .match .rest in
-    rw (ne-eqb kind integer (rest .0 .1), listed-of-apart pointers kind (apart-of-none pointers kind (rest .1)), within-inside array scalableVector kind (omega arith) (omega arith))
+    rw (
+      ne-eqb kind integer (rest .0 .1),
+      listed-of-apart pointers kind (apart-of-none pointers kind (rest .1)),
+      within-inside array scalableVector kind (omega arith) (omega arith),
+    )
 
 returns-4 : tie.Need-returns-4
 returns-4 c =
@@ -27,7 +31,8 @@ returns-4 c =
     rw (
       ne-eqb kind integer (rest .0 .1),
       listed-of-apart pointers kind (apart-of-none pointers kind (rest .1)),
-      ⊎-elim (λ w. within-below array scalableVector kind (omega arith)) (λ w. within-above array scalableVector kind (omega arith)) (c .if1 .came),
+      ⊎-elim (λ w. within-below array scalableVector kind (omega arith)) (λ w. within-above array scalableVector kind (omega arith))
+          (c .if1 .came),
     )
 
 pub is-number-spec : {M : Type 1} → statement M

@@ -2,7 +2,8 @@
 -- Assumes nothing.
 use mathlib.Core.Path.{_≡_, ap, _∙_}
 use borrow.Author.Needs.{needs}
-use Rattle.spec.specs.declared.spec.Spec.the-variants.{Endianness, Stack, Space, Typed, Pointer, FunctionPointer, Mangled, Numbered, Refused}
+use Rattle.spec.specs.declared.spec.Spec.the-variants.{Endianness, Stack, Space, Typed}
+use Rattle.spec.specs.declared.spec.Spec.the-variants.{Pointer, FunctionPointer, Mangled, Numbered, Refused}
 use Rattle.datalayout.specs.Apply.{doneWith}
 use Rattle.datalayout.proofs.Laws.Apply.{applied-of-case}
 use Rattle.datalayout.proofs.apply.apply.Statement.{statement}
@@ -92,7 +93,8 @@ returns-2 c =
 returns-3 : tie.Need-returns-3
 returns-3 c =
     let args = c .before .before .before .before .before .before .args in
-    let said : args .read .spec ≡ Space (c .before .before .before .said3 .given .0 .0) (c .before .before .before .said3 .given .0 .1 .0) = search needs in
+    let said : args .read .spec ≡ Space (c .before .before .before .said3 .given .0 .0)
+    (c .before .before .before .said3 .given .0 .1 .0) = search needs in
     c .done3 .ensures ∙ ap doneWith (c .before .with-space .ensures) ∙ applied-of-case (args .layout) (args .read) _ said
 
 returns-4 : tie.Need-returns-4

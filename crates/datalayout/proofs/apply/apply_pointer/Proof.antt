@@ -21,7 +21,8 @@ returns-2 : tie.Need-returns-2
 returns-2 c =
     let args = c .before .before .before .before .before .args in
     let call = c .before .before .before .update in
-    pointerApplied-put (args .layout) (args .row) (call .result) (call .ensures) (c .before .before .if1 .left) (c .with-pointers .result) (c .with-pointers .ensures)
+    pointerApplied-put (args .layout) (args .row) (call .result) (call .ensures) (c .before .before .if1 .left)
+    (c .with-pointers .result) (c .with-pointers .ensures)
 
 pub apply-pointer-spec : {M : Type 1} → statement M
 apply-pointer-spec = tie.close (tie.spec update-requires returns with-pointers-requires returns-2)

@@ -21,7 +21,8 @@ returns-2 : tie.Need-returns-2
 returns-2 c =
     let args = c .before .before .before .before .before .args in
     let call = c .before .before .before .update in
-    typeApplied-put (args .layout) (args .row) (call .result) (call .ensures) (c .before .before .if1 .left) (c .with-types .result) (c .with-types .ensures)
+    typeApplied-put (args .layout) (args .row) (call .result) (call .ensures) (c .before .before .if1 .left)
+    (c .with-types .result) (c .with-types .ensures)
 
 pub apply-type-spec : {M : Type 1} → statement M
 apply-type-spec = tie.close (tie.spec update-requires returns with-types-requires returns-2)

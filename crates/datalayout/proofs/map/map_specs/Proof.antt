@@ -75,7 +75,9 @@ returns c =
     let fault = c .before .before .outcome .given .0 .0 in
     let refused : call .result .outcome ≡ Refused fault = search needs in
     let made = call .ensures ∙ ap (applied (here .layout)) (c .before .before .before .before .before .read-spec .ensures) in
-    rw (c .default-layout2 .ensures) (specsFrom-refused (here .layout) s (here .at) (at-part .part-end .result) (here .inv .in-value) (at-part .part-end .ensures) (call .result) made fault refused ∙ sym (here .inv .same))
+    rw (c .default-layout2 .ensures)
+    (specsFrom-refused (here .layout) s (here .at) (at-part .part-end .result) (here .inv .in-value) (at-part .part-end .ensures)
+    (call .result) made fault refused ∙ sym (here .inv .same))
 
 enum-told : tie.Need-enum-told Inv-loop μ-loop
 enum-told c = search needs
@@ -89,7 +91,8 @@ returns-2 c =
     let call = c .before .before .before .before .apply in
     let done : call .result .outcome ≡ Done = search needs in
     let made = call .ensures ∙ ap (applied (here .layout)) (c .before .before .before .before .before .read-spec .ensures) in
-    specsFrom-last (here .layout) s (here .at) (at-part .part-end .result) (here .inv .in-value) (at-part .part-end .ensures) (call .result) made done (c .if1 .taken) ∙ sym (here .inv .same)
+    specsFrom-last (here .layout) s (here .at) (at-part .part-end .result) (here .inv .in-value) (at-part .part-end .ensures)
+    (call .result) made done (c .if1 .taken) ∙ sym (here .inv .same)
 
 add-at : tie.Need-add-at Inv-loop μ-loop
 add-at c =
@@ -119,7 +122,13 @@ loop-again c =
     let call = c .before .before .before .before .apply in
     let done : call .result .outcome ≡ Done = search needs in
     let made = call .ensures ∙ ap (applied (here .layout)) (c .before .before .before .before .before .read-spec .ensures) in
-    record { in-value = omega arith; same = here .inv .same ∙ specsFrom-more (here .layout) s (here .at) (at-part .part-end .result) (here .inv .in-value) (at-part .part-end .ensures) (call .result) made done (c .if1 .left) }
+    record {
+      in-value =
+          omega arith;
+      same =
+          here .inv .same ∙ specsFrom-more (here .layout) s (here .at) (at-part .part-end .result) (here .inv .in-value)
+          (at-part .part-end .ensures) (call .result) made done (c .if1 .left);
+    }
 
 pub map-specs-spec : {M : Type 1} → statement M
 map-specs-spec =

@@ -17,7 +17,14 @@ none-requires-2 : tie.Need-none-requires-2
 none-requires-2 c κs = search needs
 
 returns : tie.Need-returns
-returns c = rw (c .none2 .ensures, c .before .none .ensures, c .before .before .default-pointers .ensures, c .before .before .before .default-types .ensures)
+returns c =
+    rw (
+      c .none2 .ensures,
+      c .before .none .ensures,
+      c .before .before .default-pointers .ensures,
+      c .before .before .before
+          .default-types .ensures,
+    )
 
 pub default-layout-spec : {M : Type 1} → statement M
 default-layout-spec = tie.close (tie.spec default-types-requires default-pointers-requires none-requires none-requires-2 returns)

@@ -11,7 +11,12 @@ in-last-requires : tie.Need-in-last-requires
 in-last-requires c κs = search needs
 
 returns-2 : tie.Need-returns-2
-returns-2 c = rw (c .in-last .ensures, eq-eqb (c .before .before .before .before .before .args .f .last .kind) 16 (c .before .before .if1 .taken), c .before .if2 .left)
+returns-2 c = rw (
+  c .in-last .ensures,
+  eq-eqb (c .before .before .before .before .before .args .f .last .kind) 16
+      (c .before .before .if1 .taken),
+  c .before .if2 .left,
+)
 
 behind-requires : tie.Need-behind-requires
 behind-requires c κs = search needs

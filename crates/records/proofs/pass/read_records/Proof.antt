@@ -9,7 +9,8 @@ use Rattle.stream.specs.declared.Found.the-variants.{End, Cut, Record}
 use Rattle.stream.proofs.Laws.Stream.{lies, words-fall}
 use Rattle.records.specs.declared.Step.the-variants.{Go, Stop}
 use Rattle.records.specs.Held.{buffersOf}
-use Rattle.records.proofs.Laws.Reading.{Reading, Reading-first, none-filled, Reading-end, Reading-cut, Reading-ready, Reading-stop, Reading-more}
+use Rattle.records.proofs.Laws.Reading.{Reading, Reading-first, none-filled, Reading-end, Reading-cut, Reading-ready, Reading-stop}
+use Rattle.records.proofs.Laws.Reading.{Reading-more}
 use Rattle.stream.proofs.record_at.Reads as record-at-reads
 use Rattle.records.proofs.pass.read_records.Statement.{statement}
 use Rattle.records.proofs.pass.read_records.Tie as tie
@@ -26,30 +27,28 @@ abbrev μ-loop : tie.MeasureT-loop
 
 -- the record that was found, and that it lies in the words
 abbrev Known : Type 0
-Known = lts.After-known-told (record-at-reads.Asked, record-at-reads.Learnt, take-record-reads.Asked, take-record-reads.Learnt) reads.Pre reads.Post Inv-loop μ-loop
+Known = lts.After-known-told (record-at-reads.Asked, record-at-reads.Learnt, take-record-reads.Asked, take-record-reads.Learnt) reads.Pre
+    reads.Post Inv-loop μ-loop
 
-found : (c : Known) → let told = c .before .code .given .0 in c .before .before .before .record-at .result ≡ Record (told .0) (told .1 .0) (told .1 .1 .0)
+found : (c : Known)
+    → let told = c .before .code .given .0 in c .before .before .before .record-at .result ≡ Record (told .0) (told .1 .0) (told .1 .1 .0)
 found c = search needs
 
 within-words : (c : Known)
     → let told = c .before .code .given .0 in
     let at-loop = c .before .before .before .before in
-    (told .1 .0 ≡ at-loop .loop .at + 2) × (told .1 .0 ≤ told .1 .1 .0) × (told .1 .1 .0 ≤ length (at-loop .before .before .before .before .before .args .words .now))
+    (told .1 .0 ≡ at-loop .loop .at + 2) × (told .1 .0 ≤ told .1 .1 .0)
+    × (told .1 .1 .0 ≤ length (at-loop .before .before .before .before .before .args .words .now))
 within-words c =
     let at-loop = c .before .before .before .before in
     let call = c .before .before .before .record-at in
-    lies (at-loop .before .before .before .before .before .args .words .now) (at-loop .loop .at) (call .result) (call .ensures) _ _ _ (found c)
+    lies (at-loop .before .before .before .before .before .args .words .now) (at-loop .loop .at) (call .result) (call .ensures) _ _ _
+    (found c)
 
 loop-holds : tie.Need-loop-holds Inv-loop μ-loop
 loop-holds c =
     let a = c .before .before .before .before .args in
     rw none-filled (Reading-first (a .words .now) (buffersOf (a .rows .now) (a .refs .now) (a .names .now)) (a .entries))
-
-record-at-requires : tie.Need-record-at-requires Inv-loop μ-loop
-record-at-requires c κs = search needs
-
-enum-told : tie.Need-enum-told Inv-loop μ-loop
-enum-told c = search needs
 
 same-length : tie.Need-same-length Inv-loop μ-loop
 same-length c = c .before .before .before .loop .inv .rows-length
@@ -66,10 +65,8 @@ returns c =
     let a = at-loop .before .before .before .before .before .args in
     let call = c .before .before .record-at in
     let found-none : call .result ≡ End = search needs in
-    Reading-end (a .words .now) _ (a .entries) (at-loop .loop .at) (at-loop .loop .number) (at-loop .loop .f) _ _ _ (at-loop .loop .inv) (call .result) (call .ensures) found-none
-
-enum-told-2 : tie.Need-enum-told-2 Inv-loop μ-loop
-enum-told-2 c = search needs
+    Reading-end (a .words .now) _ (a .entries) (at-loop .loop .at) (at-loop .loop .number) (at-loop .loop .f) _ _ _ (at-loop .loop .inv)
+    (call .result) (call .ensures) found-none
 
 same-length-4 : tie.Need-same-length-4 Inv-loop μ-loop
 same-length-4 c = c .before .before .before .loop .inv .rows-length
@@ -86,10 +83,8 @@ returns-2 c =
     let a = at-loop .before .before .before .before .before .args in
     let call = c .before .before .record-at in
     let found-none : call .result ≡ Cut = search needs in
-    Reading-cut (a .words .now) _ (a .entries) (at-loop .loop .at) (at-loop .loop .number) (at-loop .loop .f) _ _ _ (at-loop .loop .inv) (call .result) (call .ensures) found-none
-
-enum-known-code : tie.Need-enum-known-code Inv-loop μ-loop
-enum-known-code c = search needs
+    Reading-cut (a .words .now) _ (a .entries) (at-loop .loop .at) (at-loop .loop .number) (at-loop .loop .f) _ _ _ (at-loop .loop .inv)
+    (call .result) (call .ensures) found-none
 
 mul-take-record : tie.Need-mul-take-record Inv-loop μ-loop
 mul-take-record c = let l = within-words c in omega (arith, c .before .before .before .before .before .before .before .before .before .good)
@@ -110,22 +105,23 @@ take-record-requires c κs =
     let start = at-loop .before .before .before .before .before in
     let a = start .args in
     let call = at-record .before .before .before .record-at in
-    Reading-ready (a .words .now) _ (a .entries) (at-loop .loop .at) (at-loop .loop .number) (at-loop .loop .f) _ _ _ (at-loop .loop .inv) (call .result) (call .ensures) _ _ _ (found at-record) (start .pre) (omega (arith, start .good))
-
-enum-known-next : tie.Need-enum-known-next Inv-loop μ-loop
-enum-known-next c = search needs
-
-enum-known-fault : tie.Need-enum-known-fault Inv-loop μ-loop
-enum-known-fault c = search needs
+    Reading-ready (a .words .now) _ (a .entries) (at-loop .loop .at) (at-loop .loop .number) (at-loop .loop .f) _ _ _ (at-loop .loop .inv)
+    (call .result) (call .ensures) _ _ _ (found at-record) (start .pre) (omega (arith, start .good))
 
 same-length-7 : tie.Need-same-length-7 Inv-loop μ-loop
-same-length-7 c = c .before .before .before .before .before .before .before .before .before .take-record .kept .1 .1 .0 ∙ c .before .before .before .before .before .before .before .before .before .before .before .before .before .before .before .before .before .before .loop .inv .rows-length
+same-length-7 c = c .before .before .before .before .before .before .before .before .before .take-record .kept .1 .1 .0 ∙ c .before .before
+    .before .before .before .before .before .before .before .before .before .before .before .before .before .before .before .before .loop
+    .inv .rows-length
 
 same-length-8 : tie.Need-same-length-8 Inv-loop μ-loop
-same-length-8 c = c .before .before .before .before .before .before .before .before .before .take-record .kept .1 .1 .1 .0 ∙ c .before .before .before .before .before .before .before .before .before .before .before .before .before .before .before .before .before .before .loop .inv .refs-length
+same-length-8 c = c .before .before .before .before .before .before .before .before .before .take-record .kept .1 .1 .1 .0 ∙ c .before
+    .before .before .before .before .before .before .before .before .before .before .before .before .before .before .before .before .before
+    .loop .inv .refs-length
 
 same-length-9 : tie.Need-same-length-9 Inv-loop μ-loop
-same-length-9 c = c .before .before .before .before .before .before .before .before .before .take-record .kept .1 .1 .1 .1 .0 ∙ c .before .before .before .before .before .before .before .before .before .before .before .before .before .before .before .before .before .before .loop .inv .names-length
+same-length-9 c = c .before .before .before .before .before .before .before .before .before .take-record .kept .1 .1 .1 .1 .0 ∙ c .before
+    .before .before .before .before .before .before .before .before .before .before .before .before .before .before .before .before .before
+    .loop .inv .names-length
 
 returns-3 : tie.Need-returns-3 Inv-loop μ-loop
 returns-3 c =
@@ -138,7 +134,9 @@ returns-3 c =
     let inv = at-loop .loop .inv in
     let fault = c .before .fault .given .0 .0 in
     let stops : step .result ≡ Stop fault = search needs in
-    Reading-stop (a .words .now) _ (a .entries) (at-loop .loop .at) (at-loop .loop .number) (at-loop .loop .f) _ _ _ (at-loop .loop .inv) (call .result) (call .ensures) _ _ _ (found at-record) (step .result) _ _ _ (step .ensures .0 _ (inv .read) (inv .held) (inv .filled-is)) fault stops
+    Reading-stop (a .words .now) _ (a .entries) (at-loop .loop .at) (at-loop .loop .number) (at-loop .loop .f) _ _ _ (at-loop .loop .inv)
+    (call .result) (call .ensures) _ _ _ (found at-record) (step .result) _ _ _
+    (step .ensures .0 _ (inv .read) (inv .held) (inv .filled-is)) fault stops
 
 add-number : tie.Need-add-number Inv-loop μ-loop
 add-number c =
@@ -170,7 +168,9 @@ loop-again c =
     let inv = at-loop .loop .inv in
     let next = c .before .next .given .0 .0 in
     let goes : step .result ≡ Go next = search needs in
-    Reading-more (a .words .now) _ (a .entries) (at-loop .loop .at) (at-loop .loop .number) (at-loop .loop .f) _ _ _ (at-loop .loop .inv) (call .result) (call .ensures) _ _ _ (found at-record) (step .result) _ _ _ (step .ensures .0 _ (inv .read) (inv .held) (inv .filled-is)) next goes (step .ensures .1)
+    Reading-more (a .words .now) _ (a .entries) (at-loop .loop .at) (at-loop .loop .number) (at-loop .loop .f) _ _ _ (at-loop .loop .inv)
+    (call .result) (call .ensures) _ _ _ (found at-record) (step .result) _ _ _
+    (step .ensures .0 _ (inv .read) (inv .held) (inv .filled-is)) next goes (step .ensures .1)
 
 pub read-records-spec : {M : Type 1} → statement M
 read-records-spec =
@@ -179,25 +179,25 @@ read-records-spec =
     Inv-loop
     μ-loop
     loop-holds
-    record-at-requires
-    enum-told
+    (λ c κs. search needs)
+    (λ c. search needs)
     same-length
     same-length-2
     same-length-3
     returns
-    enum-told-2
+    (λ c. search needs)
     same-length-4
     same-length-5
     same-length-6
     returns-2
-    enum-known-code
+    (λ c. search needs)
     mul-take-record
     sub-take-record
     part-take-record-start
     part-take-record-end
     take-record-requires
-    enum-known-next
-    enum-known-fault
+    (λ c. search needs)
+    (λ c. search needs)
     same-length-7
     same-length-8
     same-length-9

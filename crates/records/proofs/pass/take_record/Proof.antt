@@ -14,27 +14,6 @@ use Rattle.records.proofs.Laws.Steps.{put-fits, pend-bytes, step-pass, 
 use Rattle.records.proofs.pass.take_record.Statement.{statement}
 use Rattle.records.proofs.pass.take_record.Tie as tie
 
-shape-in-requires : tie.Need-shape-in-requires
-shape-in-requires c κs = search needs
-
-deed-on-requires : tie.Need-deed-on-requires
-deed-on-requires c κs = search needs
-
-enum-told : tie.Need-enum-told
-enum-told c = search needs
-
-enum-told-2 : tie.Need-enum-told-2
-enum-told-2 c = search needs
-
-stage-requires : tie.Need-stage-requires
-stage-requires c κs = search needs
-
-staged-requires : tie.Need-staged-requires
-staged-requires c κs = search needs
-
-enum-known-p : tie.Need-enum-known-p
-enum-known-p c = search needs
-
 put-requires : tie.Need-put-requires
 put-requires c κs =
     let start = c .before .before .before .before .before .before .before .before .before .before .before .before in
@@ -42,11 +21,11 @@ put-requires c κs =
     let call = c .before .before .before .before .before .deed-on in
     let shape = c .before .before .before .before .before .before .shape-in in
     let p = c .before .before .before .p .given .0 .0 in
-    let is : call .result ≡ Put p = search needs in
-    (start .pre, put-fits (a .code) (a .fields .now) (a .f) (shape .result) (shape .ensures) (call .result) (call .ensures) p is (start .pre .last-le))
-
-enum-known-fault : tie.Need-enum-known-fault
-enum-known-fault c = search needs
+    let is : call .result ≡ Put p = search needs in (
+      start .pre,
+      put-fits (a .code) (a .fields .now) (a .f) (shape .result) (shape .ensures) (call .result) (call .ensures) p is
+          (start .pre .last-le),
+    )
 
 returns : tie.Need-returns
 returns c =
@@ -55,12 +34,10 @@ returns c =
     let call = c .before .before .deed-on in
     let shape = c .before .before .before .shape-in in
     let done : call .result ≡ Pass = search needs in (
-      λ b t held is. step-after b _ _ _ _ _ _ (step-pass (a .code) (a .fields .now) (a .f) (shape .result) (shape .ensures) (call .result) (call .ensures) t is (roomIn (a .entries) b) done) (After-pass b t _ _ _ held (roomIn (a .entries) b) (a .f) is),
+      λ b t held is. step-after b _ _ _ _ _ _ (step-pass (a .code) (a .fields .now) (a .f) (shape .result) (shape .ensures) (call .result)
+          (call .ensures) t is (roomIn (a .entries) b) done) (After-pass b t _ _ _ held (roomIn (a .entries) b) (a .f) is),
       omega arith,
     )
-
-same-length : tie.Need-same-length
-same-length c = search needs
 
 returns-2 : tie.Need-returns-2
 returns-2 c =
@@ -73,20 +50,18 @@ returns-2 c =
       λ b t held is.
           let room = roomIn (a .entries) b in
           let names = namesOf (t .entries) ++ t .pending in
-          let laid = c .before .before .before .stage .ensures names (b .names) (held .names-are) (ap (λ (x : Filled). x .mark) is ∙ sym (simp length-append)) in
-          step-after b _ _ _ _ _ _ (step-pend (a .code) (a .fields .now) (a .f) (shape .result) (shape .ensures) (call .result) (call .ensures) t is room done) (After-pend b t _ _ _ held room (a .f) (c .staged .result) (a .fields .now) _ is (c .staged .ensures) (laid ∙ rw bytes)),
+          let laid = c .before .before .before .stage .ensures names (b .names) (held .names-are)
+          (ap (λ (x : Filled). x .mark) is ∙ sym (simp length-append)) in
+          step-after b _ _ _ _ _ _ (step-pend (a .code) (a .fields .now) (a .f) (shape .result) (shape .ensures) (call .result)
+          (call .ensures) t is room done) (After-pend b t _ _ _ held room (a .f) (c .staged .result) (a .fields .now) _ is
+          (c .staged .ensures) (laid ∙ rw bytes)),
       rw (c .staged .ensures) (omega arith),
     )
 
-same-length-2 : tie.Need-same-length-2
-same-length-2 c = search needs
-
-same-length-3 : tie.Need-same-length-3
-same-length-3 c = search needs
-
 returns-3 : tie.Need-returns-3
 returns-3 c =
-    let start = c .before .before .before .before .before .before .before .before .before .before .before .before .before .before .before .before .before in
+    let start = c .before .before .before .before .before .before .before .before .before .before .before .before .before .before .before
+    .before .before in
     let a = start .args in
     let call = c .before .before .before .before .before .before .before .before .before .before .deed-on in
     let shape = c .before .before .before .before .before .before .before .before .before .before .before .shape-in in
@@ -94,8 +69,10 @@ returns-3 c =
     let done : call .result ≡ Put p = search needs in (
       λ b t held is.
           let room = roomIn (a .entries) b in
-          let h = step-put (a .code) (a .fields .now) (a .f) (shape .result) (shape .ensures) (call .result) (call .ensures) t is room p done in
-          step-after b _ _ _ _ _ _ (h .2) (c .before .before .before .before .put .ensures .0 b t (a .names .now) (h .0) (h .1) held is (length-names b t _ _ _ held) (h .3)),
+          let h = step-put (a .code) (a .fields .now) (a .f) (shape .result) (shape .ensures) (call .result) (call .ensures) t is room p
+          done in
+          step-after b _ _ _ _ _ _ (h .2) (c .before .before .before .before .put .ensures .0 b t (a .names .now) (h .0) (h .1) held is
+          (length-names b t _ _ _ held) (h .3)),
       omega (arith, c .before .before .before .before .put .ensures .1),
     )
 
@@ -107,7 +84,8 @@ returns-4 c =
     let shape = c .before .before .before .before .shape-in in
     let fault = c .before .fault .given .0 .0 in
     let done : call .result ≡ Refuse fault = search needs in (
-      λ b t held is. step-after b _ _ _ _ _ _ (step-refuse (a .code) (a .fields .now) (a .f) (shape .result) (shape .ensures) (call .result) (call .ensures) t is (roomIn (a .entries) b) fault done) (After-refuse b t _ _ _ held (roomIn (a .entries) b) fault),
+      λ b t held is. step-after b _ _ _ _ _ _ (step-refuse (a .code) (a .fields .now) (a .f) (shape .result) (shape .ensures) (call .result)
+          (call .ensures) t is (roomIn (a .entries) b) fault done) (After-refuse b t _ _ _ held (roomIn (a .entries) b) fault),
       omega arith,
     )
 
@@ -115,19 +93,19 @@ pub take-record-spec : {M : Type 1} → statement M
 take-record-spec =
     tie.close
     (tie.spec
-    shape-in-requires
-    deed-on-requires
-    enum-told
-    enum-told-2
-    stage-requires
-    staged-requires
-    enum-known-p
+    (λ c κs. search needs)
+    (λ c κs. search needs)
+    (λ c. search needs)
+    (λ c. search needs)
+    (λ c κs. search needs)
+    (λ c κs. search needs)
+    (λ c. search needs)
     put-requires
-    enum-known-fault
+    (λ c. search needs)
     returns
-    same-length
+    (λ c. search needs)
     returns-2
-    same-length-2
-    same-length-3
+    (λ c. search needs)
+    (λ c. search needs)
     returns-3
     returns-4)

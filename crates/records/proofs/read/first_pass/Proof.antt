@@ -22,45 +22,32 @@ use Rattle.records.proofs.read.opening_of.Reads as opening-of-reads
 use Rattle.records.proofs.read.settle.Reads as settle-reads
 
 -- the opening was fine: told where the stated count is bound
-fine : (c : lts.After-known-told2 (opening-of-reads.Asked, opening-of-reads.Learnt, keep-none-reads.Asked, keep-none-reads.Learnt, read-records-reads.Asked, read-records-reads.Learnt, settle-reads.Asked, settle-reads.Learnt) reads.Pre reads.Post)
+fine : (c : lts.After-known-told2 (
+  opening-of-reads.Asked,
+  opening-of-reads.Learnt,
+  keep-none-reads.Asked,
+  keep-none-reads.Learnt,
+  read-records-reads.Asked,
+  read-records-reads.Learnt,
+  settle-reads.Asked,
+  settle-reads.Learnt,
+) reads.Pre reads.Post)
     → c .before .before .before .opening-of .result ≡ Fine (c .before .stated .given .0 .0)
 fine c = search needs
-
-opening-of-requires : tie.Need-opening-of-requires
-opening-of-requires c κs = search needs
-
-enum-known-answer : tie.Need-enum-known-answer
-enum-known-answer c = search needs
-
-keep-none-requires : tie.Need-keep-none-requires
-keep-none-requires c κs = search needs
-
-enum-known-stated : tie.Need-enum-known-stated
-enum-known-stated c = search needs
-
-read-records-requires : tie.Need-read-records-requires
-read-records-requires c κs = search needs
-
-enum-known-f : tie.Need-enum-known-f
-enum-known-f c = search needs
 
 settle-requires : tie.Need-settle-requires
 settle-requires c κs =
     let call = c .before .before .before .before .before .before .before .before .before .read-records in
-    let start = c .before .before .before .before .before .before .before .before .before .before .before .before .before .before .before .before .before .before .before .before .before in
+    let start = c .before .before .before .before .before .before .before .before .before .before .before .before .before .before .before
+    .before .before .before .before .before .before in
     let a = start .args in
     let f = c .before .f .given .0 .0 in
     let ended : call .result ≡ AtEnd f = search needs in
     let b = buffersOf (a .rows .now) (a .refs .now) (a .names .now) in
     let ran = run (roomIn (a .entries) b) 0 empty (stream (a .words .now)) in
-    let fits : f .entries * rowWords ≤ length (a .rows .now) = end-fits b ran (call .result) (call .last .1 .0) (call .last .1 .1 .0) (call .last .1 .1 .1 .0) (call .ensures) f ended in
+    let fits : f .entries * rowWords ≤ length (a .rows .now) =
+    end-fits b ran (call .result) (call .last .1 .0) (call .last .1 .1 .0) (call .last .1 .1 .1 .0) (call .ensures) f ended in
     omega (arith, start .good, fits)
-
-enum-known-number : tie.Need-enum-known-number
-enum-known-number c = search needs
-
-keep-none-requires-2 : tie.Need-keep-none-requires-2
-keep-none-requires-2 c κs = search needs
 
 returns : tie.Need-returns
 returns c =
@@ -69,61 +56,51 @@ returns c =
     let refuses : opening .result ≡ Bad answer = search needs in
     Left-opening _ _ _ _ _ _ _ (opening .result) (opening .ensures) answer refuses (c .keep-none .ensures)
 
-same-length : tie.Need-same-length
-same-length c = search needs
-
-same-length-2 : tie.Need-same-length-2
-same-length-2 c = search needs
-
-same-length-3 : tie.Need-same-length-3
-same-length-3 c = search needs
-
 returns-2 : tie.Need-returns-2
 returns-2 c =
-    let opening = c .before .before .before .before .before .before .before .before .before .before .before .before .before .before .before .before .before .opening-of in
+    let opening = c .before .before .before .before .before .before .before .before .before .before .before .before .before .before .before
+    .before .before .opening-of in
     let call = c .before .before .before .before .before .before .before .before .before .before .read-records in
-    let stated = c .before .before .before .before .before .before .before .before .before .before .before .before .before .before .before .stated .given .0 .0 in
+    let stated = c .before .before .before .before .before .before .before .before .before .before .before .before .before .before .before
+    .stated .given .0 .0 in
     let f = c .before .before .f .given .0 .0 in
     let ended : call .result ≡ AtEnd f = search needs in
-    Left-end _ _ _ _ _ _ _ (opening .result) (opening .ensures) stated (fine (c .before .before .before .before .before .before .before .before .before .before .before .before .before .before)) (call .result) (call .ensures) f ended (c .settle .ensures)
-
-same-length-4 : tie.Need-same-length-4
-same-length-4 c = search needs
-
-same-length-5 : tie.Need-same-length-5
-same-length-5 c = search needs
-
-same-length-6 : tie.Need-same-length-6
-same-length-6 c = search needs
+    Left-end _ _ _ _ _ _ _ (opening .result) (opening .ensures) stated (fine
+    (c .before .before .before .before .before .before .before .before .before .before .before .before .before .before)) (call .result)
+    (call .ensures) f ended (c .settle .ensures)
 
 returns-3 : tie.Need-returns-3
 returns-3 c =
-    let opening = c .before .before .before .before .before .before .before .before .before .before .before .before .before .before .before .before .before .opening-of in
+    let opening = c .before .before .before .before .before .before .before .before .before .before .before .before .before .before .before
+    .before .before .opening-of in
     let call = c .before .before .before .before .before .before .before .before .before .before .read-records in
-    let stated = c .before .before .before .before .before .before .before .before .before .before .before .before .before .before .before .stated .given .0 .0 in
+    let stated = c .before .before .before .before .before .before .before .before .before .before .before .before .before .before .before
+    .stated .given .0 .0 in
     let told = c .before .before .number .given .0 in
     let stopped : call .result ≡ AtRecord (told .0) (told .1 .0) = search needs in
-    Left-record _ _ _ _ _ _ _ (opening .result) (opening .ensures) stated (fine (c .before .before .before .before .before .before .before .before .before .before .before .before .before .before)) (call .result) (call .ensures) (told .0) (told .1 .0) stopped (c .keep-none2 .ensures)
+    Left-record _ _ _ _ _ _ _ (opening .result) (opening .ensures) stated
+    (fine (c .before .before .before .before .before .before .before .before .before .before .before .before .before .before))
+    (call .result) (call .ensures) (told .0) (told .1 .0) stopped (c .keep-none2 .ensures)
 
 pub first-pass-spec : {M : Type 1} → statement M
 first-pass-spec =
     tie.close
     (tie.spec
-    opening-of-requires
-    enum-known-answer
-    keep-none-requires
-    enum-known-stated
-    read-records-requires
-    enum-known-f
+    (λ c κs. search needs)
+    (λ c. search needs)
+    (λ c κs. search needs)
+    (λ c. search needs)
+    (λ c κs. search needs)
+    (λ c. search needs)
     settle-requires
-    enum-known-number
-    keep-none-requires-2
+    (λ c. search needs)
+    (λ c κs. search needs)
     returns
-    same-length
-    same-length-2
-    same-length-3
+    (λ c. search needs)
+    (λ c. search needs)
+    (λ c. search needs)
     returns-2
-    same-length-4
-    same-length-5
-    same-length-6
+    (λ c. search needs)
+    (λ c. search needs)
+    (λ c. search needs)
     returns-3)

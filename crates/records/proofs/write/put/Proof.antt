@@ -10,9 +10,6 @@ use Rattle.records.proofs.Laws.Turn.{After-full, After-put}
 use Rattle.records.proofs.write.put.Statement.{statement}
 use Rattle.records.proofs.write.put.Tie as tie
 
-has-room-requires : tie.Need-has-room-requires
-has-room-requires c κs = search needs
-
 grow-requires : tie.Need-grow-requires
 grow-requires c κs =
     let at-room = c in
@@ -28,9 +25,6 @@ mul-row c =
     let told = room-told (start .args .p) (start .args .f) _ _ _ (sym (at-room .before .has-room .ensures) ∙ at-room .if1 .taken) in
     let ready = start .pre .0 in
     omega (arith, ready .rows-hold, start .good)
-
-add-end : tie.Need-add-end
-add-end c = search needs
 
 mul-put-row : tie.Need-mul-put-row
 mul-put-row c =
@@ -56,16 +50,10 @@ part-put-row-start c =
     let ready = start .pre .0 in
     search (needs, ready .rows-hold)
 
-part-put-row-end : tie.Need-part-put-row-end
-part-put-row-end c = search needs
-
 row-of-requires : tie.Need-row-of-requires
 row-of-requires c κs =
     let start = c .before .before .before .before .before .before .before .before .before in
     (start .pre .1 .kept-le, start .pre .0 .taken-le)
-
-put-row-requires : tie.Need-put-row-requires
-put-row-requires c κs = search needs
 
 mul-put-words : tie.Need-mul-put-words
 mul-put-words c =
@@ -82,9 +70,6 @@ part-put-words-start c =
     let start = c .before .before .before .before .before .before .before .before .before .before .before .before .before in
     search (needs, start .pre .0 .refs-hold)
 
-part-put-words-end : tie.Need-part-put-words-end
-part-put-words-end c = search needs
-
 mul-put-words-2 : tie.Need-mul-put-words-2
 mul-put-words-2 c =
     let start = c .before .before .before .before .before .before .before .before .before .before .before .before .before .before in
@@ -95,22 +80,10 @@ sub-put-words-2 c =
     let start = c .before .before .before .before .before .before .before .before .before .before .before .before .before .before in
     omega (arith, start .pre .1 .inside)
 
-part-put-words-start-2 : tie.Need-part-put-words-start-2
-part-put-words-start-2 c = search needs
-
 part-put-words-end-2 : tie.Need-part-put-words-end-2
 part-put-words-end-2 c =
     let start = c .before .before .before .before .before .before .before .before .before .before .before .before .before .before in
     search (needs, start .pre .1 .inside)
-
-put-words-requires : tie.Need-put-words-requires
-put-words-requires c κs = search needs
-
-same-length : tie.Need-same-length
-same-length c = search needs
-
-same-length-2 : tie.Need-same-length-2
-same-length-2 c = search needs
 
 returns : tie.Need-returns
 returns c =
@@ -119,8 +92,12 @@ returns c =
     let a = start .args in
     let n : a .p .from + a .p .more - a .p .from ≡ a .p .more = omega arith in
     let room = sym (at-room .before .has-room .ensures) ∙ at-room .if1 .taken in (
-      λ b t z front e held is nz P. After-put b t (a .rows .now) (a .refs .now) z held (a .fields .now) (a .p) front e P (start .pre .1 .inside) (a .entries) (a .f) is _ _ refl nz room (start .pre .0 .rows-hold) _ _ _ _ _
-          (c .before .before .before .before .before .before .before .before .before .before .before .before .grow .ensures) (c .before .before .before .before .before .before .before .before .row-of .ensures) (ap (λ (k : ℕ). take k (drop (a .p .from) (a .fields .now))) n) (c .before .before .before .before .before .before .before .put-row .ensures) (c .before .before .put-words .ensures),
+      λ b t z front e held is nz P. After-put b t (a .rows .now) (a .refs .now) z held (a .fields .now) (a .p) front e P
+          (start .pre .1 .inside) (a .entries) (a .f) is _ _ refl nz room (start .pre .0 .rows-hold) _ _ _ _ _
+          (c .before .before .before .before .before .before .before .before .before .before .before .before .grow .ensures)
+          (c .before .before .before .before .before .before .before .before .row-of .ensures)
+          (ap (λ (k : ℕ). take k (drop (a .p .from) (a .fields .now))) n)
+          (c .before .before .before .before .before .before .before .put-row .ensures) (c .before .before .put-words .ensures),
       rw (c .before .before .before .before .before .before .before .before .before .before .before .before .grow .ensures) (omega arith),
     )
 
@@ -128,33 +105,36 @@ returns-2 : tie.Need-returns-2
 returns-2 c =
     let at-room = c in
     let start = at-room .before .before .before .before .before in
-    let a = start .args in
-    ((λ b t z front e held is nz P. After-full b t (a .rows .now) (a .refs .now) z held (a .fields .now) (a .p) front e P (start .pre .1 .inside) (a .entries) (a .f) is _ _ refl nz (sym (at-room .before .has-room .ensures) ∙ at-room .if1 .left)), omega arith)
+    let a = start .args in (
+      (λ b t z front e held is nz P. After-full b t (a .rows .now) (a .refs .now) z held (a .fields .now) (a .p) front e P
+          (start .pre .1 .inside) (a .entries) (a .f) is _ _ refl nz (sym (at-room .before .has-room .ensures) ∙ at-room .if1 .left)),
+      omega arith,
+    )
 
 pub put-spec : {M : Type 1} → statement M
 put-spec =
     tie.close
     (tie.spec
-    has-room-requires
+    (λ c κs. search needs)
     grow-requires
     mul-row
-    add-end
+    (λ c. search needs)
     mul-put-row
     sub-put-row
     part-put-row-start
-    part-put-row-end
+    (λ c. search needs)
     row-of-requires
-    put-row-requires
+    (λ c κs. search needs)
     mul-put-words
     sub-put-words
     part-put-words-start
-    part-put-words-end
+    (λ c. search needs)
     mul-put-words-2
     sub-put-words-2
-    part-put-words-start-2
+    (λ c. search needs)
     part-put-words-end-2
-    put-words-requires
-    same-length
-    same-length-2
+    (λ c κs. search needs)
+    (λ c. search needs)
+    (λ c. search needs)
     returns
     returns-2)

@@ -28,7 +28,8 @@ named-word-requires c κs = search needs
 returns : tie.Need-returns
 returns c =
     let start = c .before .before .before .before .before .before .before .before in
-    rowFor-is (start .args .p) (start .args .f) _ _ _ _ (c .before .before .before .before .before .before .end-of .ensures) (c .before .before .place-of .ensures) (c .before .place-of2 .ensures) (c .named-word .ensures)
+    rowFor-is (start .args .p) (start .args .f) _ _ _ _ (c .before .before .before .before .before .before .end-of .ensures)
+    (c .before .before .place-of .ensures) (c .before .place-of2 .ensures) (c .named-word .ensures)
 
 pub row-of-spec : {M : Type 1} → statement M
 row-of-spec =

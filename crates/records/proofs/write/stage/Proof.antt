@@ -12,7 +12,8 @@ use Rattle.records.proofs.write.stage.Tie as tie
 returns : tie.Need-returns
 returns c =
     let start = c .before .before .before in
-    λ xs b is-names is-mark. is-names ∙ sym (over-full xs (lowBytes (start .args .fields .now)) b (omega (arith, ap length is-names, length-over xs b)))
+    λ xs b is-names is-mark. is-names ∙ sym (over-full xs (lowBytes (start .args .fields .now)) b
+    (omega (arith, ap length is-names, length-over xs b)))
 
 sub-put-bytes : tie.Need-sub-put-bytes
 sub-put-bytes c = search needs
@@ -32,7 +33,9 @@ same-length c = search needs
 returns-2 : tie.Need-returns-2
 returns-2 c =
     let start = c .before .before .before .before .before .before .before in
-    λ xs b is-names is-mark. over-rest xs b (start .args .names .now) _ (start .args .mark) is-mark (omega (arith, ap length is-names, length-over xs b)) (lowBytes (start .args .fields .now)) is-names (c .before .before .put-bytes .ensures)
+    λ xs b is-names is-mark. over-rest xs b (start .args .names .now) _ (start .args .mark) is-mark
+    (omega (arith, ap length is-names, length-over xs b)) (lowBytes (start .args .fields .now)) is-names
+    (c .before .before .put-bytes .ensures)
 
 pub stage-spec : {M : Type 1} → statement M
 stage-spec =

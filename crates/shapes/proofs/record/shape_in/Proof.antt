@@ -17,7 +17,12 @@ spelled-requires : tie.Need-spelled-requires
 spelled-requires c κs = search needs
 
 returns : tie.Need-returns
-returns c = c .spelled .ensures ∙ rw (c .before .shape-of .ensures, c .before .before .seen-in .ensures, c .before .before .before .type-code .ensures)
+returns c = c .spelled .ensures ∙ rw (
+  c .before .shape-of .ensures,
+  c .before .before .seen-in .ensures,
+  c .before .before .before
+      .type-code .ensures,
+)
 
 pub shape-in-spec : {M : Type 1} → statement M
 shape-in-spec =

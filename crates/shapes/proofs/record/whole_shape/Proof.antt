@@ -2,103 +2,11 @@
 -- Assumes nothing.
 use mathlib.Core.Path.{_≡_, _∙_}
 use borrow.Author.Needs.{needs}
-use Rattle.kinds.specs.declared.code.TypeCode.the-variants.{NumEntry, Plain, Opaque, Integer, Pointer, FunctionOld, Array, Vector, StructAnon, StructName, StructNamed, Function, OpaquePointer, Unknown}
+use Rattle.kinds.specs.declared.code.TypeCode.the-variants.{NumEntry, Plain, Opaque, Integer, Pointer, FunctionOld, Array, Vector}
+use Rattle.kinds.specs.declared.code.TypeCode.the-variants.{StructAnon, StructName, StructNamed, Function, OpaquePointer, Unknown}
 use Rattle.shapes.specs.Shapes.{wholeShape}
 use Rattle.shapes.proofs.record.whole_shape.Statement.{statement}
 use Rattle.shapes.proofs.record.whole_shape.Tie as tie
-
-enum-told : tie.Need-enum-told
-enum-told c = search needs
-
-enum-known-c : tie.Need-enum-known-c
-enum-known-c c = search needs
-
-adds-requires : tie.Need-adds-requires
-adds-requires c κs = search needs
-
-enum-told-2 : tie.Need-enum-told-2
-enum-told-2 c = search needs
-
-opaque-if-requires : tie.Need-opaque-if-requires
-opaque-if-requires c κs = search needs
-
-enum-told-3 : tie.Need-enum-told-3
-enum-told-3 c = search needs
-
-adds-requires-2 : tie.Need-adds-requires-2
-adds-requires-2 c κs = search needs
-
-enum-told-4 : tie.Need-enum-told-4
-enum-told-4 c = search needs
-
-spaced-requires : tie.Need-spaced-requires
-spaced-requires c κs = search needs
-
-enum-told-5 : tie.Need-enum-told-5
-enum-told-5 c = search needs
-
-enum-told-6 : tie.Need-enum-told-6
-enum-told-6 c = search needs
-
-adds-requires-3 : tie.Need-adds-requires-3
-adds-requires-3 c κs = search needs
-
-enum-told-7 : tie.Need-enum-told-7
-enum-told-7 c = search needs
-
-vector-kind-requires : tie.Need-vector-kind-requires
-vector-kind-requires c κs = search needs
-
-adds-requires-4 : tie.Need-adds-requires-4
-adds-requires-4 c κs = search needs
-
-enum-told-8 : tie.Need-enum-told-8
-enum-told-8 c = search needs
-
-flag-of-requires : tie.Need-flag-of-requires
-flag-of-requires c κs = search needs
-
-less-one-requires : tie.Need-less-one-requires
-less-one-requires c κs = search needs
-
-adds-requires-5 : tie.Need-adds-requires-5
-adds-requires-5 c κs = search needs
-
-enum-told-9 : tie.Need-enum-told-9
-enum-told-9 c = search needs
-
-enum-told-10 : tie.Need-enum-told-10
-enum-told-10 c = search needs
-
-flag-of-requires-2 : tie.Need-flag-of-requires-2
-flag-of-requires-2 c κs = search needs
-
-less-one-requires-2 : tie.Need-less-one-requires-2
-less-one-requires-2 c κs = search needs
-
-named-struct-requires : tie.Need-named-struct-requires
-named-struct-requires c κs = search needs
-
-enum-told-11 : tie.Need-enum-told-11
-enum-told-11 c = search needs
-
-flag-of-requires-3 : tie.Need-flag-of-requires-3
-flag-of-requires-3 c κs = search needs
-
-less-one-requires-3 : tie.Need-less-one-requires-3
-less-one-requires-3 c κs = search needs
-
-adds-requires-6 : tie.Need-adds-requires-6
-adds-requires-6 c κs = search needs
-
-enum-told-12 : tie.Need-enum-told-12
-enum-told-12 c = search needs
-
-spaced-requires-2 : tie.Need-spaced-requires-2
-spaced-requires-2 c κs = search needs
-
-enum-told-13 : tie.Need-enum-told-13
-enum-told-13 c = search needs
 
 returns : tie.Need-returns
 unfolding wholeShape
@@ -202,37 +110,37 @@ pub whole-shape-spec : {M : Type 1} → statement M
 whole-shape-spec =
     tie.close
     (tie.spec
-    enum-told
-    enum-known-c
-    adds-requires
-    enum-told-2
-    opaque-if-requires
-    enum-told-3
-    adds-requires-2
-    enum-told-4
-    spaced-requires
-    enum-told-5
-    enum-told-6
-    adds-requires-3
-    enum-told-7
-    vector-kind-requires
-    adds-requires-4
-    enum-told-8
-    flag-of-requires
-    less-one-requires
-    adds-requires-5
-    enum-told-9
-    enum-told-10
-    flag-of-requires-2
-    less-one-requires-2
-    named-struct-requires
-    enum-told-11
-    flag-of-requires-3
-    less-one-requires-3
-    adds-requires-6
-    enum-told-12
-    spaced-requires-2
-    enum-told-13
+    (λ c. search needs)
+    (λ c. search needs)
+    (λ c κs. search needs)
+    (λ c. search needs)
+    (λ c κs. search needs)
+    (λ c. search needs)
+    (λ c κs. search needs)
+    (λ c. search needs)
+    (λ c κs. search needs)
+    (λ c. search needs)
+    (λ c. search needs)
+    (λ c κs. search needs)
+    (λ c. search needs)
+    (λ c κs. search needs)
+    (λ c κs. search needs)
+    (λ c. search needs)
+    (λ c κs. search needs)
+    (λ c κs. search needs)
+    (λ c κs. search needs)
+    (λ c. search needs)
+    (λ c. search needs)
+    (λ c κs. search needs)
+    (λ c κs. search needs)
+    (λ c κs. search needs)
+    (λ c. search needs)
+    (λ c κs. search needs)
+    (λ c κs. search needs)
+    (λ c κs. search needs)
+    (λ c. search needs)
+    (λ c κs. search needs)
+    (λ c. search needs)
     returns
     returns-2
     returns-3

@@ -42,7 +42,8 @@ returns c =
     let at-loop = c .before .before .before in
     let args = at-loop .before .before .before .args in
     let here = at-loop .loop in
-    c .refused .ensures ∙ numbersFrom-full (args .listed) (here .numbers) (args .body .now) (here .at) (here .inv .in-body) (c .before .if1 .taken) ∙ sym (here .inv .same)
+    c .refused .ensures ∙ numbersFrom-full (args .listed) (here .numbers) (args .body .now) (here .at) (here .inv .in-body)
+    (c .before .if1 .taken) ∙ sym (here .inv .same)
 
 part-end-requires : tie.Need-part-end-requires Inv-loop μ-loop
 part-end-requires c κs = search needs
@@ -59,7 +60,8 @@ part-read-number-end c =
     let at-loop = at-part .before .before .before in
     let args = at-loop .before .before .before .args in
     let here = at-loop .loop in
-    let bound = endOf-bound colon (args .body .now) (here .at) (at-part .part-end .result) (here .inv .in-body) (at-part .part-end .ensures) in
+    let bound = endOf-bound colon (args .body .now) (here .at) (at-part .part-end .result) (here .inv .in-body)
+    (at-part .part-end .ensures) in
     omega arith
 
 read-number-requires : tie.Need-read-number-requires Inv-loop μ-loop
@@ -87,7 +89,8 @@ returns-2 c =
     let fault = c .before .before .fault .given .0 .0 in
     let read : call .result ≡ Not fault = search needs in
     c .refused2 .ensures
-    ∙ numbersFrom-bad (args .listed) (here .numbers) (args .body .now) (here .at) (here .inv .in-body) (at-part .part-end .result) (at-part .part-end .ensures) (at-part .before .if1 .left) fault (sym (call .ensures) ∙ read)
+    ∙ numbersFrom-bad (args .listed) (here .numbers) (args .body .now) (here .at) (here .inv .in-body) (at-part .part-end .result)
+    (at-part .part-end .ensures) (at-part .before .if1 .left) fault (sym (call .ensures) ∙ read)
     ∙ sym (here .inv .same)
 
 returns-3 : tie.Need-returns-3 Inv-loop μ-loop
@@ -99,7 +102,9 @@ returns-3 c =
     let call = c .before .before .before .before .before .read-number in
     let n = c .before .before .before .n .given .0 .0 in
     let read : call .result ≡ Is n = search needs in
-    numbersFrom-last (args .listed) (here .numbers) (args .body .now) (here .at) (here .inv .in-body) (at-part .part-end .result) (at-part .part-end .ensures) (at-part .before .if1 .left) n (c .before .push .result) (sym (call .ensures) ∙ read) (c .before .push .ensures) (c .if2 .taken)
+    numbersFrom-last (args .listed) (here .numbers) (args .body .now) (here .at) (here .inv .in-body) (at-part .part-end .result)
+    (at-part .part-end .ensures) (at-part .before .if1 .left) n (c .before .push .result) (sym (call .ensures) ∙ read)
+    (c .before .push .ensures) (c .if2 .taken)
     ∙ sym (here .inv .same)
 
 add-at : tie.Need-add-at Inv-loop μ-loop
@@ -108,7 +113,8 @@ add-at c =
     let at-loop = at-part .before .before .before in
     let args = at-loop .before .before .before .args in
     let here = at-loop .loop in
-    let bound = endOf-bound colon (args .body .now) (here .at) (at-part .part-end .result) (here .inv .in-body) (at-part .part-end .ensures) in
+    let bound = endOf-bound colon (args .body .now) (here .at) (at-part .part-end .result) (here .inv .in-body)
+    (at-part .part-end .ensures) in
     omega arith
 
 loop-less : tie.Need-loop-less Inv-loop μ-loop
@@ -117,7 +123,8 @@ loop-less c =
     let at-loop = at-part .before .before .before in
     let args = at-loop .before .before .before .args in
     let here = at-loop .loop in
-    let bound = endOf-bound colon (args .body .now) (here .at) (at-part .part-end .result) (here .inv .in-body) (at-part .part-end .ensures) in
+    let bound = endOf-bound colon (args .body .now) (here .at) (at-part .part-end .result) (here .inv .in-body)
+    (at-part .part-end .ensures) in
     omega arith
 
 loop-again : tie.Need-loop-again Inv-loop μ-loop
@@ -126,7 +133,8 @@ loop-again c =
     let at-loop = at-part .before .before .before in
     let args = at-loop .before .before .before .args in
     let here = at-loop .loop in
-    let bound = endOf-bound colon (args .body .now) (here .at) (at-part .part-end .result) (here .inv .in-body) (at-part .part-end .ensures) in
+    let bound = endOf-bound colon (args .body .now) (here .at) (at-part .part-end .result) (here .inv .in-body)
+    (at-part .part-end .ensures) in
     let call = c .before .before .before .before .before .read-number in
     let n = c .before .before .before .n .given .0 .0 in
     let read : call .result ≡ Is n = search needs in
@@ -134,7 +142,9 @@ loop-again c =
       in-body = omega arith;
       same =
           here .inv .same
-          ∙ numbersFrom-more (args .listed) (here .numbers) (args .body .now) (here .at) (here .inv .in-body) (at-part .part-end .result) (at-part .part-end .ensures) (at-part .before .if1 .left) n (c .before .push .result) (sym (call .ensures) ∙ read) (c .before .push .ensures) (c .if2 .left);
+          ∙ numbersFrom-more (args .listed) (here .numbers) (args .body .now) (here .at) (here .inv .in-body)
+          (at-part .part-end .result) (at-part .part-end .ensures) (at-part .before .if1 .left) n (c .before .push .result)
+          (sym (call .ensures) ∙ read) (c .before .push .ensures) (c .if2 .left);
     }
 
 pub read-list-spec : {M : Type 1} → statement M

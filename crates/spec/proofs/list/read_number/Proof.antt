@@ -22,7 +22,9 @@ returns : tie.Need-returns
 returns c = let q : c .before .before .before .before .args .listed ≡ NativeIntegerWidths = search needs in rw q (c .read-native .ensures)
 
 returns-2 : tie.Need-returns-2
-returns-2 c = let q : c .before .before .before .before .args .listed ≡ NonIntegralAddressSpaces = search needs in rw q (c .read-non-integral .ensures)
+returns-2 c =
+    let q : c .before .before .before .before .args .listed
+    ≡ NonIntegralAddressSpaces = search needs in rw q (c .read-non-integral .ensures)
 
 pub read-number-spec : {M : Type 1} → statement M
 read-number-spec =

@@ -19,7 +19,9 @@ refused-requires-2 : tie.Need-refused-requires-2
 refused-requires-2 c κs = search needs
 
 returns-2 : tie.Need-returns-2
-returns-2 c = c .refused2 .ensures ∙ numbersIn-alone (c .before .before .before .before .before .before .args .body .now) (c .before .before .before .before .if1 .left) (c .before .before .if2 .taken) (c .before .if3 .taken)
+returns-2 c =
+    c .refused2 .ensures ∙ numbersIn-alone (c .before .before .before .before .before .before .args .body .now)
+    (c .before .before .before .before .if1 .left) (c .before .before .if2 .taken) (c .before .if3 .taken)
 
 sub-read-list : tie.Need-sub-read-list
 sub-read-list c = search needs
@@ -34,13 +36,17 @@ read-list-requires : tie.Need-read-list-requires
 read-list-requires c κs = search needs
 
 returns-3 : tie.Need-returns-3
-returns-3 c = c .read-list .ensures ∙ numbersIn-spaces (c .before .before .before .before .before .before .before .args .body .now) (c .before .before .before .before .before .if1 .left) (c .before .before .before .if2 .taken) (c .before .before .if3 .left)
+returns-3 c =
+    c .read-list .ensures ∙ numbersIn-spaces (c .before .before .before .before .before .before .before .args .body .now)
+    (c .before .before .before .before .before .if1 .left) (c .before .before .before .if2 .taken) (c .before .before .if3 .left)
 
 read-list-requires-2 : tie.Need-read-list-requires-2
 read-list-requires-2 c κs = search needs
 
 returns-4 : tie.Need-returns-4
-returns-4 c = c .read-list2 .ensures ∙ numbersIn-widths (c .before .before .before .before .before .args .body .now) (c .before .before .before .if1 .left) (c .before .if2 .left)
+returns-4 c =
+    c .read-list2 .ensures ∙ numbersIn-widths (c .before .before .before .before .before .args .body .now)
+    (c .before .before .before .if1 .left) (c .before .if2 .left)
 
 pub read-numbers-spec : {M : Type 1} → statement M
 read-numbers-spec =

@@ -15,7 +15,9 @@ part-end-requires : tie.Need-part-end-requires
 part-end-requires c κs = search needs
 
 returns : tie.Need-returns
-returns c = pointerIn-one (c .before .before .before .args .body .now) (c .before .part-end .result) (c .before .part-end .ensures) (c .if1 .taken)
+returns c =
+    pointerIn-one (c .before .before .before .args .body .now) (c .before .part-end .result) (c .before .part-end .ensures)
+    (c .if1 .taken)
 
 add-size-start : tie.Need-add-size-start
 add-size-start c =
@@ -32,7 +34,8 @@ returns-2 : tie.Need-returns-2
 returns-2 c =
     let second = c .before in
     let first = second .before .before in
-    pointerIn-two (first .before .before .args .body .now) (first .part-end .result) (first .part-end .ensures) (second .before .if1 .left) (second .part-end2 .result) (second .part-end2 .ensures) (c .if2 .taken)
+    pointerIn-two (first .before .before .args .body .now) (first .part-end .result) (first .part-end .ensures)
+    (second .before .if1 .left) (second .part-end2 .result) (second .part-end2 .ensures) (c .if2 .taken)
 
 add-abi-start : tie.Need-add-abi-start
 add-abi-start c =
@@ -107,7 +110,9 @@ returns-3 c =
     let second = third .before .before in
     let first = second .before .before in
     c .before .read-pointer-row .ensures
-    ∙ pointerIn-three (first .before .before .args .body .now) (first .part-end .result) (first .part-end .ensures) (second .before .if1 .left) (second .part-end2 .result) (second .part-end2 .ensures) (third .before .if2 .left) (third .part-end3 .result) (third .part-end3 .ensures) (c .if3 .taken)
+    ∙ pointerIn-three (first .before .before .args .body .now) (first .part-end .result) (first .part-end .ensures)
+    (second .before .if1 .left) (second .part-end2 .result) (second .part-end2 .ensures) (third .before .if2 .left)
+    (third .part-end3 .result) (third .part-end3 .ensures) (c .if3 .taken)
 
 add-read-pointer-rest : tie.Need-add-read-pointer-rest
 add-read-pointer-rest c =
@@ -140,7 +145,9 @@ returns-4 c =
     let second = third .before .before in
     let first = second .before .before in
     c .read-pointer-rest .ensures
-    ∙ pointerIn-more (first .before .before .args .body .now) (first .part-end .result) (first .part-end .ensures) (second .before .if1 .left) (second .part-end2 .result) (second .part-end2 .ensures) (third .before .if2 .left) (third .part-end3 .result) (third .part-end3 .ensures) (c .before .if3 .left) _ (c .before .before .read-pointer-row .ensures)
+    ∙ pointerIn-more (first .before .before .args .body .now) (first .part-end .result) (first .part-end .ensures)
+    (second .before .if1 .left) (second .part-end2 .result) (second .part-end2 .ensures) (third .before .if2 .left)
+    (third .part-end3 .result) (third .part-end3 .ensures) (c .before .if3 .left) _ (c .before .before .read-pointer-row .ensures)
 
 pub read-pointer-spec : {M : Type 1} → statement M
 read-pointer-spec =

@@ -23,7 +23,11 @@ part-with-preferred-start c = search needs
 part-with-preferred-end : tie.Need-part-with-preferred-end
 part-with-preferred-end c =
     let start = c .before .before in
-    omega (arith, endOf-bound colon (start .args .body .now) (start .args .start) (c .part-end .result) (start .pre) (c .part-end .ensures))
+    omega (
+      arith,
+      endOf-bound colon (start .args .body .now) (start .args .start) (c .part-end .result) (start .pre)
+          (c .part-end .ensures),
+    )
 
 with-preferred-requires : tie.Need-with-preferred-requires
 with-preferred-requires c κs = search needs
@@ -32,13 +36,19 @@ returns : tie.Need-returns
 returns c =
     let first = c .before .before .before in
     let start = first .before .before in
-    c .before .with-preferred .ensures ∙ pointerRest-one (start .args .row) (start .args .body .now) (start .args .start) (first .part-end .result) (start .pre) (first .part-end .ensures) (c .if1 .taken)
+    c .before .with-preferred .ensures
+    ∙ pointerRest-one (start .args .row) (start .args .body .now) (start .args .start) (first .part-end .result) (start .pre)
+    (first .part-end .ensures) (c .if1 .taken)
 
 add-index-start : tie.Need-add-index-start
 add-index-start c =
     let first = c .before .before .before in
     let start = first .before .before in
-    omega (arith, endOf-bound colon (start .args .body .now) (start .args .start) (first .part-end .result) (start .pre) (first .part-end .ensures))
+    omega (
+      arith,
+      endOf-bound colon (start .args .body .now) (start .args .start) (first .part-end .result) (start .pre)
+          (first .part-end .ensures),
+    )
 
 part-end-requires-2 : tie.Need-part-end-requires-2
 part-end-requires-2 c κs = search needs
@@ -53,8 +63,13 @@ part-with-index-end : tie.Need-part-with-index-end
 part-with-index-end c =
     let first = c .before .before .before .before in
     let start = first .before .before in
-    let bound = endOf-bound colon (start .args .body .now) (start .args .start) (first .part-end .result) (start .pre) (first .part-end .ensures) in
-    omega (arith, endOf-bound colon (start .args .body .now) (first .part-end .result + 1) (c .part-end2 .result) (omega arith) (c .part-end2 .ensures))
+    let bound = endOf-bound colon (start .args .body .now) (start .args .start) (first .part-end .result) (start .pre)
+    (first .part-end .ensures) in
+    omega (
+      arith,
+      endOf-bound colon (start .args .body .now) (first .part-end .result + 1) (c .part-end2 .result) (omega arith)
+          (c .part-end2 .ensures),
+    )
 
 with-index-requires : tie.Need-with-index-requires
 with-index-requires c κs = search needs
@@ -65,7 +80,9 @@ returns-2 c =
     let first = second .before .before .before .before in
     let start = first .before .before in
     c .with-index .ensures
-    ∙ pointerRest-two (start .args .row) (start .args .body .now) (start .args .start) (first .part-end .result) (start .pre) (first .part-end .ensures) (second .before .if1 .left) (second .part-end2 .result) (second .part-end2 .ensures) _ (second .before .before .with-preferred .ensures)
+    ∙ pointerRest-two (start .args .row) (start .args .body .now) (start .args .start) (first .part-end .result) (start .pre)
+    (first .part-end .ensures) (second .before .if1 .left) (second .part-end2 .result) (second .part-end2 .ensures) _
+    (second .before .before .with-preferred .ensures)
 
 pub read-pointer-rest-spec : {M : Type 1} → statement M
 read-pointer-rest-spec =

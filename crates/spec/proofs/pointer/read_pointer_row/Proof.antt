@@ -42,7 +42,12 @@ returns c =
     let space : at-space .read-pointer-space .result ≡ IsNumber (at-size .before .before .address-space .given .0 .0) = search needs in
     let size : at-size .read-size .result ≡ IsNumber (at-abi .before .before .bits .given .0 .0) = search needs in
     let abi : at-abi .read-pointer-abi .result ≡ IsAlign (c .before .align .given .0 .0) = search needs in
-    rw (sym (at-space .read-pointer-space .ensures) ∙ space, sym (at-size .read-size .ensures) ∙ size, sym (at-abi .read-pointer-abi .ensures) ∙ abi)
+    rw (
+      sym (at-space .read-pointer-space .ensures) ∙ space,
+      sym (at-size .read-size .ensures)
+          ∙ size,
+      sym (at-abi .read-pointer-abi .ensures) ∙ abi,
+    )
 
 returns-2 : tie.Need-returns-2
 returns-2 c =
@@ -52,7 +57,12 @@ returns-2 c =
     let space : at-space .read-pointer-space .result ≡ IsNumber (at-size .before .before .address-space .given .0 .0) = search needs in
     let size : at-size .read-size .result ≡ IsNumber (at-abi .before .before .bits .given .0 .0) = search needs in
     let abi : at-abi .read-pointer-abi .result ≡ NoAlign (c .before .fault .given .0 .0) = search needs in
-    rw (sym (at-space .read-pointer-space .ensures) ∙ space, sym (at-size .read-size .ensures) ∙ size, sym (at-abi .read-pointer-abi .ensures) ∙ abi)
+    rw (
+      sym (at-space .read-pointer-space .ensures) ∙ space,
+      sym (at-size .read-size .ensures)
+          ∙ size,
+      sym (at-abi .read-pointer-abi .ensures) ∙ abi,
+    )
 
 returns-3 : tie.Need-returns-3
 returns-3 c =

@@ -25,14 +25,16 @@ enum-known-row-2 c = search needs
 returns : tie.Need-returns
 returns c =
     let at-part = c .before .before .before in
-    let row : at-part .before .before .before .before .before .args .row ≡ Is (at-part .before .before .row .given .0 .0) = search needs in
+    let row : at-part .before .before .before .before .before .args .row
+    ≡ Is (at-part .before .before .row .given .0 .0) = search needs in
     let read : at-part .read-size .result ≡ IsNumber (c .before .bits .given .0 .0) = search needs in
     rw (row, sym (at-part .read-size .ensures) ∙ read)
 
 returns-2 : tie.Need-returns-2
 returns-2 c =
     let at-part = c .before .before .before in
-    let row : at-part .before .before .before .before .before .args .row ≡ Is (at-part .before .before .row .given .0 .0) = search needs in
+    let row : at-part .before .before .before .before .before .args .row
+    ≡ Is (at-part .before .before .row .given .0 .0) = search needs in
     let read : at-part .read-size .result ≡ NoNumber (c .before .fault .given .0 .0) = search needs in
     rw (row, sym (at-part .read-size .ensures) ∙ read)
 

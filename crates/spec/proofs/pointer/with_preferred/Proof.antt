@@ -25,14 +25,16 @@ enum-known-row-2 c = search needs
 returns : tie.Need-returns
 returns c =
     let at-part = c .before .before .before in
-    let row : at-part .before .before .before .before .before .args .row ≡ Is (at-part .before .before .row .given .0 .0) = search needs in
+    let row : at-part .before .before .before .before .before .args .row
+    ≡ Is (at-part .before .before .row .given .0 .0) = search needs in
     let read : at-part .read-align .result ≡ IsAlign (c .before .align .given .0 .0) = search needs in
     rw (row, sym (at-part .read-align .ensures) ∙ read)
 
 returns-2 : tie.Need-returns-2
 returns-2 c =
     let at-part = c .before .before .before in
-    let row : at-part .before .before .before .before .before .args .row ≡ Is (at-part .before .before .row .given .0 .0) = search needs in
+    let row : at-part .before .before .before .before .before .args .row
+    ≡ Is (at-part .before .before .row .given .0 .0) = search needs in
     let read : at-part .read-align .result ≡ NoAlign (c .before .fault .given .0 .0) = search needs in
     rw (row, sym (at-part .read-align .ensures) ∙ read)
 

@@ -20,7 +20,9 @@ mangling-letter-requires : tie.Need-mangling-letter-requires
 mangling-letter-requires c κs = search needs
 
 returns-2 : tie.Need-returns-2
-returns-2 c = c .mangling-letter .ensures ∙ manglingIn-colon (c .before .before .before .before .before .before .args .body .now) (omega arith) (c .before .before .if2 .taken)
+returns-2 c =
+    c .mangling-letter .ensures ∙ manglingIn-colon (c .before .before .before .before .before .before .args .body .now)
+    (omega arith) (c .before .before .if2 .taken)
 
 returns-3 : tie.Need-returns-3
 returns-3 c = manglingIn-other (c .before .before .before .before .args .body .now) (omega arith) (c .if2 .left)

@@ -28,7 +28,9 @@ read-numbers-requires : tie.Need-read-numbers-requires
 read-numbers-requires c κs = search needs
 
 returns-2 : tie.Need-returns-2
-returns-2 c = c .read-numbers .ensures ∙ specIn-numbers (c .before .before .before .before .before .before .args .spec .now) (c .before .before .before .before .if1 .left) (c .before .before .if2 .taken)
+returns-2 c =
+    c .read-numbers .ensures ∙ specIn-numbers (c .before .before .before .before .before .before .args .spec .now)
+    (c .before .before .before .before .if1 .left) (c .before .before .if2 .taken)
 
 sub-plain : tie.Need-sub-plain
 sub-plain c = search needs
@@ -46,7 +48,10 @@ none-requires : tie.Need-none-requires
 none-requires c κs = search needs
 
 returns-3 : tie.Need-returns-3
-returns-3 c = rw (c .none .ensures, c .before .plain .ensures) (specIn-plain (c .before .before .before .before .before .before .before .args .spec .now) (c .before .before .before .before .before .if1 .left) (c .before .before .before .if2 .left))
+returns-3 c =
+    rw (c .none .ensures, c .before .plain .ensures)
+    (specIn-plain (c .before .before .before .before .before .before .before .args .spec .now)
+    (c .before .before .before .before .before .if1 .left) (c .before .before .before .if2 .left))
 
 pub read-spec-spec : {M : Type 1} → statement M
 read-spec-spec =

@@ -20,7 +20,12 @@ returns c =
     typeIn-one (args .aligned-type) (args .body .now) (c .before .part-end .result) (c .before .part-end .ensures) (c .if1 .taken)
 
 add-abi-start : tie.Need-add-abi-start
-add-abi-start c = omega (arith, endOf-bound colon (c .before .before .before .args .body .now) 0 (c .before .part-end .result) (omega arith) (c .before .part-end .ensures))
+add-abi-start c =
+    omega (
+      arith,
+      endOf-bound colon (c .before .before .before .args .body .now) 0 (c .before .part-end .result) (omega arith)
+          (c .before .part-end .ensures),
+    )
 
 part-end-requires-2 : tie.Need-part-end-requires-2
 part-end-requires-2 c κs = search needs
@@ -52,7 +57,8 @@ returns-2 c =
     let first = second .before .before in
     let args = first .before .before .args in
     c .read-type-row .ensures
-    ∙ typeIn-two (args .aligned-type) (args .body .now) (first .part-end .result) (first .part-end .ensures) (second .before .if1 .left) (second .part-end2 .result) (second .part-end2 .ensures) (c .before .before .before .if2 .taken)
+    ∙ typeIn-two (args .aligned-type) (args .body .now) (first .part-end .result) (first .part-end .ensures)
+    (second .before .if1 .left) (second .part-end2 .result) (second .part-end2 .ensures) (c .before .before .before .if2 .taken)
 
 add-preferred-start : tie.Need-add-preferred-start
 add-preferred-start c =
@@ -105,7 +111,10 @@ returns-3 c =
     let first = second .before .before in
     let args = first .before .before .args in
     c .with-preferred .ensures
-    ∙ typeIn-three (args .aligned-type) (args .body .now) (first .part-end .result) (first .part-end .ensures) (second .before .if1 .left) (second .part-end2 .result) (second .part-end2 .ensures) (third .before .if2 .left) (third .part-end3 .result) (third .part-end3 .ensures) (c .before .before .before .before .before .if3 .taken) _ (c .before .before .read-type-row2 .ensures)
+    ∙ typeIn-three (args .aligned-type) (args .body .now) (first .part-end .result) (first .part-end .ensures)
+    (second .before .if1 .left) (second .part-end2 .result) (second .part-end2 .ensures) (third .before .if2 .left)
+    (third .part-end3 .result) (third .part-end3 .ensures) (c .before .before .before .before .before .if3 .taken) _
+    (c .before .before .read-type-row2 .ensures)
 
 returns-4 : tie.Need-returns-4
 returns-4 c =
@@ -113,7 +122,9 @@ returns-4 c =
     let second = third .before .before in
     let first = second .before .before in
     let args = first .before .before .args in
-    typeIn-four (args .aligned-type) (args .body .now) (first .part-end .result) (first .part-end .ensures) (second .before .if1 .left) (second .part-end2 .result) (second .part-end2 .ensures) (third .before .if2 .left) (third .part-end3 .result) (third .part-end3 .ensures) (c .if3 .left)
+    typeIn-four (args .aligned-type) (args .body .now) (first .part-end .result) (first .part-end .ensures)
+    (second .before .if1 .left) (second .part-end2 .result) (second .part-end2 .ensures) (third .before .if2 .left)
+    (third .part-end3 .result) (third .part-end3 .ensures) (c .if3 .left)
 
 pub read-type-spec : {M : Type 1} → statement M
 read-type-spec =

@@ -26,7 +26,8 @@ returns : tie.Need-returns
 returns c =
     let call = c .before .before .before .before .before .read-size in
     let q : call .result ≡ Is (c .before .before .before .bits .given .0 .0) = search needs in
-    c .abi-within .ensures ∙ ap abiWithin (c .before .align-as .ensures) ∙ ap (typeAbiOf (c .before .before .before .before .before .before .before .args .aligned-type)) (sym q ∙ call .ensures)
+    c .abi-within .ensures ∙ ap abiWithin (c .before .align-as .ensures)
+    ∙ ap (typeAbiOf (c .before .before .before .before .before .before .before .args .aligned-type)) (sym q ∙ call .ensures)
 
 returns-2 : tie.Need-returns-2
 returns-2 c =

@@ -26,7 +26,8 @@ returns : tie.Need-returns Inv-loop μ-loop
 returns c =
     let at-loop = c .before .before in
     let start = at-loop .before in
-    Laid-clipped (lowBytes (start .args .src .now)) (start .args .rest .now) (at-loop .loop .i) (at-loop .loop .rest) (at-loop .loop .inv) (omega arith)
+    Laid-clipped (lowBytes (start .args .src .now)) (start .args .rest .now) (at-loop .loop .i) (at-loop .loop .rest) (at-loop .loop .inv)
+    (omega arith)
 
 mul-rest : tie.Need-mul-rest Inv-loop μ-loop
 mul-rest c = search needs
@@ -50,7 +51,9 @@ loop-again : tie.Need-loop-again Inv-loop μ-loop
 loop-again c =
     let at-loop = c .before .before .before in
     let start = at-loop .before in
-    Laid-more (lowBytes (start .args .src .now)) (start .args .rest .now) (at-loop .loop .i) _ (at-loop .loop .rest) (at-loop .loop .inv) (omega (arith, length-lowBytes (start .args .src .now))) (omega arith) (sym (getD-lowBytes (start .args .src .now) (at-loop .loop .i)))
+    Laid-more (lowBytes (start .args .src .now)) (start .args .rest .now) (at-loop .loop .i) _ (at-loop .loop .rest) (at-loop .loop .inv)
+    (omega (arith, length-lowBytes (start .args .src .now))) (omega arith)
+    (sym (getD-lowBytes (start .args .src .now) (at-loop .loop .i)))
 
 same-length-2 : tie.Need-same-length-2 Inv-loop μ-loop
 same-length-2 c = c .before .loop .inv .long
@@ -59,7 +62,8 @@ returns-2 : tie.Need-returns-2 Inv-loop μ-loop
 returns-2 c =
     let at-loop = c .before in
     let start = at-loop .before in
-    Laid-done (lowBytes (start .args .src .now)) (start .args .rest .now) (at-loop .loop .i) (at-loop .loop .rest) (at-loop .loop .inv) (omega (arith, length-lowBytes (start .args .src .now)))
+    Laid-done (lowBytes (start .args .src .now)) (start .args .rest .now) (at-loop .loop .i) (at-loop .loop .rest) (at-loop .loop .inv)
+    (omega (arith, length-lowBytes (start .args .src .now)))
 
 pub put-bytes-spec : {M : Type 1} → statement M
 put-bytes-spec =

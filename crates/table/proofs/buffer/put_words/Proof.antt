@@ -25,7 +25,8 @@ returns : tie.Need-returns Inv-loop μ-loop
 returns c =
     let at-loop = c .before .before in
     let start = at-loop .before in
-    Laid-clipped (start .args .src .now) (start .args .rest .now) (at-loop .loop .i) (at-loop .loop .rest) (at-loop .loop .inv) (omega arith)
+    Laid-clipped (start .args .src .now) (start .args .rest .now) (at-loop .loop .i) (at-loop .loop .rest) (at-loop .loop .inv)
+    (omega arith)
 
 mul-rest : tie.Need-mul-rest Inv-loop μ-loop
 mul-rest c = search needs
@@ -49,7 +50,8 @@ loop-again : tie.Need-loop-again Inv-loop μ-loop
 loop-again c =
     let at-loop = c .before .before .before in
     let start = at-loop .before in
-    Laid-more (start .args .src .now) (start .args .rest .now) (at-loop .loop .i) _ (at-loop .loop .rest) (at-loop .loop .inv) (omega arith) (omega arith) refl
+    Laid-more (start .args .src .now) (start .args .rest .now) (at-loop .loop .i) _ (at-loop .loop .rest) (at-loop .loop .inv) (omega arith)
+    (omega arith) refl
 
 same-length-2 : tie.Need-same-length-2 Inv-loop μ-loop
 same-length-2 c = c .before .loop .inv .long

@@ -28,9 +28,11 @@ returns c =
     let at-loop = placed .before .before .before in
     let s = at-loop .before .before .before .args in
     let ask : suits (s .kind) (at-loop .loop .i) (rowAt (s .rows .now) (getD (s .stretch .now) (at-loop .loop .i) 0) .kind) ≡ false =
-    suits-is (s .rows .now) (s .kind) (at-loop .loop .i) (s .stretch .now) (placed .place-of .result) (known .row-at .result) (asked .may-stand .result) false
+    suits-is (s .rows .now) (s .kind) (at-loop .loop .i) (s .stretch .now) (placed .place-of .result) (known .row-at .result)
+    (asked .may-stand .result) false
     (placed .place-of .ensures) (known .row-at .ensures) (asked .may-stand .ensures) (not-true _ (c .if1 .taken)) in
-    rw (placed .place-of .ensures) (firstBad-here (s .rows .now) (s .kind) (at-loop .loop .i) (s .stretch .now) (placed .before .before .loop-test .taken) ask ∙ sym (at-loop .loop .inv))
+    rw (placed .place-of .ensures) (firstBad-here (s .rows .now) (s .kind) (at-loop .loop .i) (s .stretch .now)
+    (placed .before .before .loop-test .taken) ask ∙ sym (at-loop .loop .inv))
 
 loop-again : tie.Need-loop-again Inv-loop μ-loop
 loop-again c =
@@ -40,9 +42,11 @@ loop-again c =
     let at-loop = placed .before .before .before in
     let s = at-loop .before .before .before .args in
     let ask : suits (s .kind) (at-loop .loop .i) (rowAt (s .rows .now) (getD (s .stretch .now) (at-loop .loop .i) 0) .kind) ≡ true =
-    suits-is (s .rows .now) (s .kind) (at-loop .loop .i) (s .stretch .now) (placed .place-of .result) (known .row-at .result) (asked .may-stand .result) true
+    suits-is (s .rows .now) (s .kind) (at-loop .loop .i) (s .stretch .now) (placed .place-of .result) (known .row-at .result)
+    (asked .may-stand .result) true
     (placed .place-of .ensures) (known .row-at .ensures) (asked .may-stand .ensures) (not-false _ (c .if1 .left)) in
-    at-loop .loop .inv ∙ firstBad-past (s .rows .now) (s .kind) (at-loop .loop .i) (s .stretch .now) (placed .before .before .loop-test .taken) ask
+    at-loop .loop .inv ∙ firstBad-past (s .rows .now) (s .kind) (at-loop .loop .i) (s .stretch .now)
+    (placed .before .before .loop-test .taken) ask
 
 pub first-bad-spec : {M : Type 1} → statement M
 first-bad-spec =

@@ -11,7 +11,8 @@ returns c =
     let tested = c .before in
     let known = tested .before .before in
     let s = known .before .before .before .args in
-    ruleAt-width (s .rows .now) (s .refs .now) (s .e) (known .row-at .result) (tested .is-integer-width .result) (known .row-at .ensures) (tested .is-integer-width .ensures) (c .if1 .taken)
+    ruleAt-width (s .rows .now) (s .refs .now) (s .e) (known .row-at .result) (tested .is-integer-width .result) (known .row-at .ensures)
+    (tested .is-integer-width .ensures) (c .if1 .taken)
 
 returns-2 : tie.Need-returns-2
 returns-2 c =
@@ -19,7 +20,8 @@ returns-2 c =
     let tested = cut .before .before in
     let known = tested .before .before in
     let s = known .before .before .before .args in
-    ruleAt-refs (s .rows .now) (s .refs .now) (s .e) (known .row-at .result) (tested .is-integer-width .result) (known .row-at .ensures) (tested .is-integer-width .ensures)
+    ruleAt-refs (s .rows .now) (s .refs .now) (s .e) (known .row-at .result) (tested .is-integer-width .result) (known .row-at .ensures)
+    (tested .is-integer-width .ensures)
     (cut .clipped .result) (verdictOf (c .first-bad .result)) (cut .before .if1 .left) (cut .clipped .ensures) (c .first-bad .ensures)
 
 pub judge-spec : {M : Type 1} → statement M

@@ -20,12 +20,14 @@ abbrev μ-loop : tie.MeasureT-loop
 loop-again : tie.Need-loop-again Inv-loop μ-loop
 loop-again c =
     let at-loop = c .before .before .before in
-    settle-more (at-loop .before .before .args .marks .now) (at-loop .loop .i) (at-loop .loop .marks) (at-loop .loop .inv) (c .before .before .loop-test .taken) (c .less .result) (c .less .ensures)
+    settle-more (at-loop .before .before .args .marks .now) (at-loop .loop .i) (at-loop .loop .marks) (at-loop .loop .inv)
+    (c .before .before .loop-test .taken) (c .less .result) (c .less .ensures)
 
 returns : tie.Need-returns Inv-loop μ-loop
 returns c =
     let at-loop = c .before in
-    settle-done (at-loop .before .before .args .marks .now) (at-loop .loop .i) (at-loop .loop .marks) (at-loop .loop .inv) (c .loop-test .left)
+    settle-done (at-loop .before .before .args .marks .now) (at-loop .loop .i) (at-loop .loop .marks) (at-loop .loop .inv)
+    (c .loop-test .left)
 
 pub settle-spec : {M : Type 1} → statement M
 settle-spec =

@@ -11,7 +11,8 @@ lent : tie.Need-slice-aggregate-resolve-marks
 lent c =
     let s = c .before .before .before .before .before .before .before .before .before .args in
     let n = c .before .entries in
-    sym (lent-length (s .count) (length (s .rows .now)) (length (s .witness .now)) (n .result) (c .before .before .before .before .clear-words .last .0) (n .ensures) (c .before .before .before .before .clear-words .ensures))
+    sym (lent-length (s .count) (length (s .rows .now)) (length (s .witness .now)) (n .result)
+    (c .before .before .before .before .clear-words .last .0) (n .ensures) (c .before .before .before .before .clear-words .ensures))
 
 resolve-marks-requires : tie.Need-resolve-marks-requires
 resolve-marks-requires c κs =

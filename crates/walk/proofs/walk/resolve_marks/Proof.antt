@@ -12,7 +12,8 @@ returns : tie.Need-returns
 returns c =
     let s = c .before .before .before .before .before .before .before .before .before .before .before .before .before .args in
     let call = c .before .before .before .before .before .before .before .before .resolve-upward in
-    resolves-accepted (s .rows .now) (s .refs .now) (length (s .marks .now)) (call .last .1 .1 .0) (call .result) (call .kept .1 .1 .0) (call .ensures) (c .before .before .before .before .before .match .keys1)
+    resolves-accepted (s .rows .now) (s .refs .now) (length (s .marks .now)) (call .last .1 .1 .0) (call .result) (call .kept .1 .1 .0)
+    (call .ensures) (c .before .before .before .before .before .match .keys1)
     (c .before .before .settle .last .0) (c .before .before .settle .ensures)
 
 returns-2 : tie.Need-returns-2
@@ -21,7 +22,8 @@ returns-2 c =
     let call = c .before .before .before .before .before .resolve-upward in
     let ring = c .before .k .given in
     let q : call .result ≡ Ring (ring .0 .0) (ring .0 .1 .0) (ring .0 .1 .1 .0) = search needs in
-    resolves-cycle (s .rows .now) (s .refs .now) (length (s .marks .now)) (call .last .1 .1 .0) (call .result) (call .kept .1 .1 .0) (call .ensures)
+    resolves-cycle (s .rows .now) (s .refs .now) (length (s .marks .now)) (call .last .1 .1 .0) (call .result) (call .kept .1 .1 .0)
+    (call .ensures)
     (ring .0 .0) (ring .0 .1 .0) (ring .0 .1 .1 .0) q
 
 returns-3 : tie.Need-returns-3
@@ -30,7 +32,8 @@ returns-3 c =
     let call = c .before .before .before .before .before .before .before .before .before .resolve-upward in
     let why = c .before .before .before .before .before .e .given in
     let q : call .result ≡ Refused (why .0 .0) (why .0 .1 .0) = search needs in
-    resolves-refused (s .rows .now) (s .refs .now) (length (s .marks .now)) (call .last .1 .1 .0) (call .result) (call .kept .1 .1 .0) (call .ensures)
+    resolves-refused (s .rows .now) (s .refs .now) (length (s .marks .now)) (call .last .1 .1 .0) (call .result) (call .kept .1 .1 .0)
+    (call .ensures)
     (why .0 .0) (why .0 .1 .0) q (c .before .before .clear-words .last .0) (c .before .before .clear-words .ensures)
 
 pub resolve-marks-spec : {M : Type 1} → statement M

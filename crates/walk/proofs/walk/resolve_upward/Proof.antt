@@ -16,17 +16,22 @@ abbrev μ-loop : tie.MeasureT-loop
 μ-loop rows refs marks₀ n i₀ marks i = n - i
 
 loop-holds : tie.Need-loop-holds Inv-loop μ-loop
-loop-holds c = let s = c .before .before .before in Passing-first (s .args .rows .now) (s .args .refs .now) (s .args .marks .now) (s .pre .0) (s .pre .1)
+loop-holds c = let s = c .before .before .before in Passing-first (s .args .rows .now) (s .args .refs .now) (s .args .marks .now)
+    (s .pre .0) (s .pre .1)
 
 resolve-entry-requires : tie.Need-resolve-entry-requires Inv-loop μ-loop
-resolve-entry-requires c κs = let h = c .before .before .loop .inv in (omega (arith, h .sized, h .count, c .before .loop-test .taken), h .ready)
+resolve-entry-requires c κs = let h = c .before .before .loop .inv in (
+  omega (arith, h .sized, h .count, c .before .loop-test .taken),
+  h .ready,
+)
 
 loop-again : tie.Need-loop-again Inv-loop μ-loop
 loop-again c =
     let s = c .before .before .before .before .before .before .before .before .before .before .before .args in
     let at-loop = c .before .before .before .before .before .before .before .loop in
     let call = c .before .before .before .before .resolve-entry in
-    Passing-more (s .rows .now) (s .refs .now) (s .marks .now) (length (s .marks .now)) (at-loop .marks) (at-loop .i) (at-loop .inv) (c .before .before .before .before .before .before .loop-test .taken)
+    Passing-more (s .rows .now) (s .refs .now) (s .marks .now) (length (s .marks .now)) (at-loop .marks) (at-loop .i) (at-loop .inv)
+    (c .before .before .before .before .before .before .loop-test .taken)
     (call .last .1 .1 .0) (call .result) (call .kept .1 .1 .0) (call .ensures) (c .before .match .keys1)
 
 returns : tie.Need-returns Inv-loop μ-loop
@@ -34,14 +39,16 @@ returns c =
     let s = c .before .before .before .before .before .before .before .before .before .before .args in
     let at-loop = c .before .before .before .before .before .before .loop in
     let call = c .before .before .before .resolve-entry in
-    Passing-stops (s .rows .now) (s .refs .now) (s .marks .now) (length (s .marks .now)) (at-loop .marks) (at-loop .i) (at-loop .inv) (c .before .before .before .before .before .loop-test .taken)
+    Passing-stops (s .rows .now) (s .refs .now) (s .marks .now) (length (s .marks .now)) (at-loop .marks) (at-loop .i) (at-loop .inv)
+    (c .before .before .before .before .before .loop-test .taken)
     (call .last .1 .1 .0) (call .result) (call .kept .1 .1 .0) (call .ensures) (c .match .keys2)
 
 returns-2 : tie.Need-returns-2 Inv-loop μ-loop
 returns-2 c =
     let s = c .before .before .before .before .before .args in
     let at-loop = c .before .loop in
-    Passing-done (s .rows .now) (s .refs .now) (s .marks .now) (length (s .marks .now)) (at-loop .marks) (at-loop .i) (at-loop .inv) (c .loop-test .left) _ refl
+    Passing-done (s .rows .now) (s .refs .now) (s .marks .now) (length (s .marks .now)) (at-loop .marks) (at-loop .i) (at-loop .inv)
+    (c .loop-test .left) _ refl
 
 pub resolve-upward-spec : {M : Type 1} → statement M
 resolve-upward-spec =

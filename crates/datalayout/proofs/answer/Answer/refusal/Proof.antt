@@ -26,7 +26,8 @@ returns-2 c = let is : c .before .before .before .args .self ≡ BadEncoding (c 
 
 returns-3 : tie.Need-returns-3
 returns-3 c =
-    let is : c .before .before .before .before .args .self ≡ Refused (c .before .before .self2 .given .0 .0) (c .before .before .self2 .given .0 .1 .0) = search needs in
+    let is : c .before .before .before .before .args .self
+    ≡ Refused (c .before .before .self2 .given .0 .0) (c .before .before .self2 .given .0 .1 .0) = search needs in
     rw (is, c .fault-number .ensures)
 
 pub refusal-spec : {M : Type 1} → statement M

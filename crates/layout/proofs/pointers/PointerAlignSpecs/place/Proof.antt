@@ -49,7 +49,8 @@ returns-2 c =
     let at-loop = c .before .before .before .before .before in
     let args = at-loop .before .before .args in
     let room : length (args .self .rows) ≡ maxPointerRows = search (needs, length-of-map) in
-    let hit = placeOf-hit sameSpace (args .spec) (args .self .count) (args .self .rows) (at-loop .loop .i) _ (omega arith) (omega arith) (sym (c .before .is-same-space .ensures) ∙ c .if2 .taken) in
+    let hit = placeOf-hit sameSpace (args .spec) (args .self .count) (args .self .rows) (at-loop .loop .i) _ (omega arith)
+    (omega arith) (sym (c .before .is-same-space .ensures) ∙ c .if2 .taken) in
     omega (arith, at-loop .loop .inv .same-place)
 
 add-i : tie.Need-add-i Inv-loop μ-loop
@@ -63,7 +64,8 @@ loop-again c =
     let at-loop = c .before .before .before .before .before in
     let args = at-loop .before .before .args in
     let room : length (args .self .rows) ≡ maxPointerRows = search (needs, length-of-map) in
-    let miss = placeOf-miss sameSpace (args .spec) (args .self .count) (args .self .rows) (at-loop .loop .i) _ (omega arith) (omega arith) (sym (c .before .is-same-space .ensures) ∙ c .if2 .left) in
+    let miss = placeOf-miss sameSpace (args .spec) (args .self .count) (args .self .rows) (at-loop .loop .i) _ (omega arith)
+    (omega arith) (sym (c .before .is-same-space .ensures) ∙ c .if2 .left) in
     record { in-room = search needs; in-rows = omega arith; same-place = omega (arith, at-loop .loop .inv .same-place) }
 
 returns-3 : tie.Need-returns-3 Inv-loop μ-loop

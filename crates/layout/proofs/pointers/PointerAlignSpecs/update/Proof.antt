@@ -6,7 +6,8 @@ use lib.ListN.{length, take, length-take}
 use borrow.Author.Needs.{needs}
 use Rattle.laws.proofs.Lists.{length-of-map}
 use Rattle.layout.specs.Pointers.{maxPointerRows, sameSpace, updatedPointers}
-use Rattle.layout.proofs.Laws.Rows.{bound, full, appended-fits, appended-rows, appended-count, replaced-fits, replaced-rows, replaced-count}
+use Rattle.layout.proofs.Laws.Rows.{bound, full, appended-fits, appended-rows}
+use Rattle.layout.proofs.Laws.Rows.{appended-count, replaced-fits, replaced-rows, replaced-count}
 use Rattle.layout.proofs.pointers.PointerAlignSpecs.update.Statement.{statement}
 use Rattle.layout.proofs.pointers.PointerAlignSpecs.update.Tie as tie
 
@@ -18,27 +19,31 @@ unfolding updatedPointers
 returns c =
     let args = c .before .before .args in
     let room : length (args .t1 .rows) ≡ maxPointerRows = search (needs, length-of-map) in
-    rw (full sameSpace (args .spec) (args .t1 .count) maxPointerRows (c .before .place .result) (args .t1 .rows) room (c .before .place .ensures) (c .if1 .taken))
+    rw (full sameSpace (args .spec) (args .t1 .count) maxPointerRows (c .before .place .result) (args .t1 .rows) room
+    (c .before .place .ensures) (c .if1 .taken))
 
 mul-spec : tie.Need-mul-spec
 mul-spec c =
     let args = c .before .before .args in
     let room : length (args .t1 .rows) ≡ maxPointerRows = search (needs, length-of-map) in
-    let b = bound sameSpace (args .spec) (args .t1 .count) maxPointerRows (c .before .place .result) (args .t1 .rows) room (c .before .place .ensures) in
+    let b = bound sameSpace (args .spec) (args .t1 .count) maxPointerRows (c .before .place .result) (args .t1 .rows) room
+    (c .before .place .ensures) in
     omega arith
 
 element-set-from-spec : tie.Need-element-set-from-spec
 element-set-from-spec c =
     let args = c .before .before .args in
     let room : length (args .t1 .rows) ≡ maxPointerRows = search (needs, length-of-map) in
-    let b = bound sameSpace (args .spec) (args .t1 .count) maxPointerRows (c .before .place .result) (args .t1 .rows) room (c .before .place .ensures) in
+    let b = bound sameSpace (args .spec) (args .t1 .count) maxPointerRows (c .before .place .result) (args .t1 .rows) room
+    (c .before .place .ensures) in
     omega arith
 
 add-self : tie.Need-add-self
 add-self c =
     let args = c .before .before .before .args in
     let room : length (args .t1 .rows) ≡ maxPointerRows = search (needs, length-of-map) in
-    let b = bound sameSpace (args .spec) (args .t1 .count) maxPointerRows (c .before .before .place .result) (args .t1 .rows) room (c .before .before .place .ensures) in
+    let b = bound sameSpace (args .spec) (args .t1 .count) maxPointerRows (c .before .before .place .result) (args .t1 .rows) room
+    (c .before .before .place .ensures) in
     omega arith
 
 returns-2 : tie.Need-returns-2

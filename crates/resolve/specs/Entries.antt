@@ -1,0 +1,59 @@
+-- A table as a list of entries (table/specs/Entries), and buffers that hold its flat form.
+--     Begins whole part            the list whole begins with part
+--     formedEntry x                the words that x says of itself are well formed
+--     Holds rows refs names es     the buffers begin with the flat form of the entries es, each well formed
+--     entriesFrom .. n 0           the entries that the first n rows say
+-- Assumes nothing.
+use mathlib.Core.Path.{_≡_}
+use mathlib.Core.Bool.{Bool, true}
+use mathlib.Core.List.{List, [], _∷_, _++_}
+use Prim.Native.Nat.{ℕ, zero, suc, _≤_}
+use lib.ListN.{length, take, drop}
+use Rattle.table.specs.Entries.{Name, unnamed, called, Entry}
+use Rattle.table.specs.Rows.{rowAt, rowOf, rowsOf, refsOf, namesOf}
+use Rattle.rules.specs.Lawful.{maxEntries, refsAt}
+use Rattle.checker.specs.Form.{formed}
+
+pub record Begins (whole part : List ℕ) : Type 0 where
+  pub rest : List ℕ
+  pub is : whole ≡ part ++ rest
+
+-- where its stretches start is no matter of the entry
+abbrev pub formedEntry : Entry → Bool
+formedEntry x = formed (rowOf 0 0 x)
+
+abbrev pub EachFormed : List Entry → Type 0
+EachFormed [] = Unit {0}
+EachFormed (x ∷ xs) = (formedEntry x ≡ true) × EachFormed xs
+
+-- "References and names are appended in record order with no gaps."
+pub record Holds (rows refs names : List ℕ) (es : List Entry) : Type 0 where
+  pub few : length es ≤ maxEntries
+  pub in-rows : Begins rows (rowsOf es)
+  pub in-refs : Begins refs (refsOf es)
+  pub in-names : Begins names (namesOf es)
+  pub each : EachFormed es
+
+-- "name words 0 where the eighth is 0"
+abbrev pub nameBy : ℕ → List ℕ → Name
+nameBy zero bytes = unnamed
+nameBy (suc n) bytes = called bytes
+
+-- the entry that row e says
+abbrev pub entryAt : List ℕ → List ℕ → List ℕ → ℕ → Entry
+entryAt rows refs names e =
+    let row = rowAt rows e in
+    record {
+      form = record {
+        kind = row .kind;
+        number = row .number;
+        flag = row .flag;
+        refs = refsAt rows refs e;
+        name = nameBy (row .named) (take (row .len) (drop (row .start) names));
+      };
+    }
+
+-- the entries that the rows from e on say, as many as left
+unfoldable pub entriesFrom : List ℕ → List ℕ → List ℕ → ℕ → ℕ → List Entry
+entriesFrom rows refs names zero e = []
+entriesFrom rows refs names (suc left) e = entryAt rows refs names e ∷ entriesFrom rows refs names left (suc e)
