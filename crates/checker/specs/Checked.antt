@@ -1,4 +1,5 @@
 -- Document 01, "Resolution": what the checker answers.
+--     everyFrom test i xs            the test holds of each, with its number
 --     refers rows ranks n e i to     reference number i of entry e, to the entry to, is lawful
 --     lawful .. e                    the width of e and its references are
 --     rowOk .. e r k                 the row of e is well formed behind r references and k name bytes;  entryOk  both
@@ -16,7 +17,7 @@ use Rattle.table.specs.Rows.{entryRoom, rowAt}
 use Rattle.rules.specs.Places.{suits}
 use Rattle.rules.specs.Counts.{counted}
 use Rattle.rules.specs.Lawful.{maxEntries, refsAt}
-use Rattle.checker.specs.Form.{formed, placed}
+use Rattle.formed.specs.Form.{formed, placed}
 
 -- a test holds of each element with its number, from i on
 unfoldable pub everyFrom : (ℕ → ℕ → Bool) → ℕ → List ℕ → Bool

@@ -3,7 +3,7 @@ ghost use mathlib.Core.Path.{_≡_};
 ghost use Prim.Native.Nat.{_+_, _≤_, _<_};
 ghost use lib.ListN.{length, getD};
 ghost use Rattle.table.specs.Rows.{placeOf, rowAt};
-ghost use Rattle.checker.specs.Form.{placed};
+ghost use Rattle.formed.specs.Form.{placed};
 ghost use Rattle.checker.specs.Checked.{refers, everyFrom, lawful, rowOk, entryOk, checked};
 use crate::form::is_formed;
 use kinds::kind::INTEGER;

@@ -5,7 +5,8 @@
 use Prim.Native.Nat.{ℕ}
 use Rattle.fields.specs.declared.numbers.Fault.{Fault}
 use Rattle.fields.specs.declared.numbers.Fault.the-variants.{EmptySpec, UnknownSpec, BadInt, BadAlign, BadAddressSpace}
-use Rattle.fields.specs.declared.numbers.Fault.the-variants.{BadSpecParse, BadPointerAbi, BadTypeWidth, AbiAlignTooLarge, AlignPref, ListFull}
+use Rattle.fields.specs.declared.numbers.Fault.the-variants.{BadSpecParse, BadPointerAbi, BadTypeWidth, AbiAlignTooLarge}
+use Rattle.fields.specs.declared.numbers.Fault.the-variants.{AlignPref, ListFull}
 use Rattle.datalayout.specs.declared.answer.Answer.{Answer}
 use Rattle.datalayout.specs.declared.answer.Answer.the-variants.{Taken, BadEncoding, Refused}
 use Rattle.datalayout.specs.declared.answer.Refusal.{Refusal}

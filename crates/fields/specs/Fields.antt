@@ -6,7 +6,6 @@ use mathlib.Core.Bool.{Bool, not, cond}
 use mathlib.Core.List.{List, [], _∷_}
 use Prim.Native.Nat.{ℕ}
 use lib.Dec.{eqb}
-use Rattle.units.specs.declared.align.Align.{Align}
 use Rattle.units.specs.declared.align.Alignment.{Alignment}
 use Rattle.units.specs.declared.align.Alignment.the-variants.{Of, Bad as NoAlignment}
 use Rattle.units.specs.declared.decimal.Decimal.{Decimal}

@@ -6,3 +6,4 @@ pub mod Runs
 pub mod Lists
 pub mod Conds
 pub mod Told
+pub mod Conjunctions

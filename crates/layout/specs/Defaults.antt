@@ -3,7 +3,7 @@
 -- 8 bits, as in the Rust." What it does not list is unspecified, 0 or empty (LangRef).
 --     defaultLayout     the layout before any spec, and with every refusal
 -- Assumes nothing.
-use mathlib.Core.List.{List, [], _∷_, _++_}
+use mathlib.Core.List.{_∷_}
 use Prim.Native.Nat.{ℕ, _-_}
 use lib.ListN.{replicate}
 use Rattle.units.specs.declared.align.Align.{Align}
@@ -45,8 +45,7 @@ typeRow kind width abi preferred =
 abbrev pub pointerRow : ℕ → ℕ → Align → Align → ℕ → PointerAlignSpec
 pointerRow space size abi preferred index =
     record {
-      «address_space» =
-          space;
+      «address_space» = space;
       «pointer_size» = size;
       «abi_alignment» = abi;
       «preferred_alignment» = preferred;

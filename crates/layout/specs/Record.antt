@@ -1,4 +1,6 @@
 -- Document 01, "Layout string": "specs in order; later ones override". What each spec changes: one field of the record.
+--     withEndianness layout new, ..     the layout with that field new, and every other as it was. In each the fields stand in the
+--                                       record's order, a letter for each, and `_` is the one that `new` takes the place of
 -- Assumes nothing.
 use Prim.Native.Nat.{ℕ}
 use Rattle.units.specs.declared.align.Align.{Align}
@@ -16,9 +18,8 @@ use Rattle.layout.specs.declared.record.Listed.the-variants.{NativeInteg
 use Rattle.layout.specs.declared.record.DataLayout.{DataLayout}
 
 -- a layout from its fields, and its fields in the same order
-abbrev made : Endian → MaybeAlign → ℕ → ℕ → ℕ → TypeAlignSpecs → PointerAlignSpecs → Align → FunctionPointerAlign → Mangling
-    → Numbers → Numbers
-    → DataLayout
+abbrev made : Endian → MaybeAlign → ℕ → ℕ → ℕ → TypeAlignSpecs → PointerAlignSpecs → Align
+    → FunctionPointerAlign → Mangling → Numbers → Numbers → DataLayout
 made endian stack program global alloca types pointers aggregate function mangling widths spaces =
     record {
       endianness = endian;
@@ -35,13 +36,15 @@ made endian stack program global alloca types pointers aggregate function mangli
       «non_integral_address_spaces» = spaces;
     }
 
-abbrev apart : DataLayout → (Endian → MaybeAlign → ℕ → ℕ → ℕ → TypeAlignSpecs → PointerAlignSpecs → Align → FunctionPointerAlign
-    → Mangling → Numbers
-    → Numbers → DataLayout) → DataLayout
+abbrev apart : DataLayout
+    → (Endian → MaybeAlign → ℕ → ℕ → ℕ → TypeAlignSpecs → PointerAlignSpecs → Align
+    → FunctionPointerAlign → Mangling → Numbers → Numbers → DataLayout)
+    → DataLayout
 apart l f =
-    f (l .endianness) (l .«natural_stack_alignment») (l .«program_address_space») (l .«global_variable_address_space»)
-    (l .«alloca_address_space»)
-    (l .«type_alignments») (l .«pointer_alignments») (l .«aggregate_alignment») (l .«function_pointer_alignment») (l .mangling)
+    f (l .endianness) (l .«natural_stack_alignment»)
+    (l .«program_address_space») (l .«global_variable_address_space») (l .«alloca_address_space»)
+    (l .«type_alignments») (l .«pointer_alignments») (l .«aggregate_alignment»)
+    (l .«function_pointer_alignment») (l .mangling)
     (l .«native_integer_widths») (l .«non_integral_address_spaces»)
 
 abbrev pub withEndianness : DataLayout → Endian → DataLayout

@@ -14,6 +14,7 @@ use Rattle.ranks.proofs.Low.{Any, LowPass, resolve-low}
 use Rattle.ranks.proofs.Heights.{height-above, height-le, height-same}
 use Rattle.ranks.proofs.State.{Settled, Closed}
 use Rattle.ranks.proofs.Steps.{Holds}
+use Rattle.ranks.proofs.Order.{first-unique}
 use Rattle.ranks.proofs.Sound.{Stops, Resolved, resolve-answered}
 
 pub rank-at : (l : List ℕ) (e : ℕ) → getD (ranksOf l) e 0 ≡ rankIn l e
@@ -72,7 +73,13 @@ resolve-deserved t = go (resolve t .marks) (resolve t .answer) (resolve-answered
         → Means t l a
     go l (Rank k) r b = resolved-ranked t l r b
     go l (Ring ring) r b = record { isRing = r; fits = ring-fits t ring r; refutes = λ ranks ok. ring-refutes-ranks ok ring r }
-    go l (Bad n e r) h b = record { fault = h .0; first = h .1; refutes = λ ranks ok. fault-refutes-ranks ok n e r (h .0) }
+    go l (Bad n e r) h b = record {
+      fault = h .0;
+      first = h .1;
+      only = λ m f s q. first-unique t q (h .1);
+      refutes = λ ranks ok.
+          fault-refutes-ranks ok n e r (h .0);
+    }
 
 pub deserved-at : (t : Table) (l : List ℕ) (a : Answer) → resolve t ≡ out l a → Means t l a
 deserved-at t l a q = rw q at (resolve-deserved t)

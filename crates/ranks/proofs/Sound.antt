@@ -108,7 +108,7 @@ module _ (t : Table) where
     state = h .state;
     inside = lt;
     led = Led-snoc p (h .met .led) (record { listed = mid-listed h; counted = c });
-    comes = inward (h .before) rs (h .met .comes) (h .parts) (h .passed) c;
+    comes = inward (h .before) rs (h .met .comes) (h .parts) (h .passed) lt c;
   }
 
   mid-up : {p ms : List ℕ} {e r : ℕ} {rs l : List ℕ} {best : ℕ} {l′ : List ℕ} {k : ℕ} → Midway p ms e (r ∷ rs) l best → r < t .count

@@ -1,7 +1,8 @@
 -- What an answer of the pass has to mean.
 --     Ranked t ranks      ranks pass, each is below the entry count, equals the height of its references, and is least
 --     Round t ring        ring is one, so that no ranks pass
---     Blamed t n e r      refusal n names a rule that entry e breaks with r, and the first such; so that no ranks pass
+--     Blamed t n e r      refusal n names a rule that entry e breaks with r, and the first such, there being no second; so that no ranks pass
+--     Means t l a         what the answer a with the marks l means;  Accepts t  the pass gives every entry a rank
 --     Deserved t o        the outcome o is deserved: such ranks, such a ring, or such a fault
 --     Decided t           the pass accepts exactly if some ranks pass
 -- Assumes nothing.
@@ -27,6 +28,7 @@ pub record Round (t : Table) (ring : List ℕ) : Type 0 where
 pub record Blamed (t : Table) (n e r : ℕ) : Type 0 where
   pub fault : Fault t n e r
   pub first : First t n e r
+  pub only : (m f s : ℕ) → First t m f s → (m ≡ n) × (f ≡ e) × (s ≡ r)
   pub refutes : (ranks : List ℕ) → Passes t ranks → ⊥
 
 abbrev pub Means : Table → List ℕ → Answer → Type 0

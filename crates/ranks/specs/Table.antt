@@ -1,13 +1,17 @@
 -- Document 01, "Resolution", over any table of entries that refer to each other, and said without any walk.
 --     Verdict           what an entry's own rule says: kept, or broken, with the refusal's number and detail
 --     Table             the entries below count with their references, which of these count, and each entry's own rule
+--     outOfRange        the number of that refusal
+--     Each P xs         P holds of each of xs
 --     Refers t e r      entry e refers to r, and the reference counts for ranks
 --     Lawful t e        the references of e are in range and its own rule is kept
 --     Passes t ranks    every entry is lawful and ranks fall strictly along every reference that counts
 --     height            what an entry's rank is, by the ranks that it refers to
+--     Leads, Turns      a chain of references, and one that comes back to its start;  Apart xs  no number twice
 --     IsRing t ring     each entry of ring refers to the next and the last to the first; all differ and are in range
---     Fault t n e r     refusal n of entry e with detail r names a rule that e breaks
+--     OutOfRange, RuleBroken, Fault t n e r     refusal n of entry e with detail r names a rule that e breaks
 --     Sound t e         e and all that it leads to are lawful, and no ring is among them
+--     Done t e r        reference r of e is done with
 --     Comes t e         the order of 01 comes to e, past nothing but what is sound
 --     First t n e r     so it comes to e, and that fault is the next thing that it meets
 -- Assumes nothing.
@@ -98,8 +102,8 @@ pub record Done (t : Table) (e r : ℕ) : Type 0 where
 -- "From entry 0 upward: an entry's references are resolved in order, each fully"
 pub data Comes (t : Table) : ℕ → Type 0 where
   upward : {e : ℕ} → e < t .count → ((i : ℕ) → i < e → Sound t i) → Comes t e
-  inward : {e r : ℕ} (before after : List ℕ) → Comes t e → t .refs e ≡ before ++ r ∷ after → Each (Done t e) before → t .counts e r ≡ true
-      → Comes t r
+  inward : {e r : ℕ} (before after : List ℕ) → Comes t e → t .refs e ≡ before ++ r ∷ after → Each (Done t e) before
+      → r < t .count → t .counts e r ≡ true → Comes t r
 
 -- a reference out of range behind references that are done with; or, "then its own rule is judged", the rule behind all of them
 pub data First (t : Table) : ℕ → ℕ → ℕ → Type 0 where

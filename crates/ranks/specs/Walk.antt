@@ -1,9 +1,14 @@
 -- Document 01, "Resolution": the walk over a table, in its order.
 --     Answer              a rank; a ring; or a refusal's number, the entry and the detail
 --     Out                 the answer, and the mark of each entry: 0 not started, 1 begun, its rank and 2 finished
+--     from e p            the part of the path p from e on
+--     onRank, andThen     go on after a rank;  byMark  by the mark of an entry
+--     judged, finish      the end of an entry: its own rule, and its rank stored
 --     entry f t p ms e    resolves e, below the path p of entries begun; f bounds the entries not started, so that it ends
 --     stretch t g e ms best rs   resolves the references rs of e, each by g, above the rank best of those before
---     resolve t           the whole pass;  ranksOf ms  the ranks that it leaves
+--     upward f t ms i n   resolves the n entries from i on;  resolve t  the whole pass
+--     isNew, unstarted    how many entries are not started
+--     rankIn, ranksOf     the ranks that the marks say
 -- Assumes nothing.
 use mathlib.Core.Bool.{cond}
 use mathlib.Core.List.{List, [], _∷_, _++_, map}

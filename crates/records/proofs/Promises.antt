@@ -5,7 +5,6 @@ use mathlib.Core.Bool.{Bool, true, false, cond}
 use mathlib.Core.Logic.{_⊎_, inl, inr}
 use mathlib.Core.List.{List, []}
 use Prim.Native.Nat.{ℕ}
-use native.Mathlib.Omega.{arith}
 use lib.Dec.{eqb}
 use lib.ListN.{length}
 use Rattle.laws.proofs.Told.{no}
@@ -23,8 +22,8 @@ use Rattle.formed.proofs.Laws.Formed.{Every, wellFormed-flat}
 use Rattle.records.specs.declared.Answer.the-variants.{BadRecord, CountDiffers}
 use Rattle.records.specs.Table.{Table, Room, empty, fits}
 use Rattle.records.specs.Records.{Ran, whole, bad, run}
-use Rattle.records.specs.Read.{Result, taken, refused, byEntries, byCount, byFrame, reading}
-use Rattle.records.specs.Promises.{Larger, NineIn, ReadsBack, RowsFormed, InRoom, MoreRoom, EnoughRoom}
+use Rattle.records.specs.Read.{Output, taken, refused, byEntries, byCount, byFrame, reading}
+use Rattle.records.specs.Promises.{Determined, ReadsBack, RowsFormed, InRoom, MoreRoom, EnoughRoom}
 use Rattle.records.proofs.Laws.Entries.{run-keeps, step-formed, step-fits}
 use Rattle.records.proofs.Laws.Room.{fits-told, fits-none, run-more}
 use Rattle.records.proofs.Laws.Enough.{run-enough}
@@ -51,6 +50,11 @@ reading-taken : (room : Room) (ws : List ℕ) (es : List Entry) → reading room
     → (t : Table) × (run room 0 empty (stream ws) ≡ whole t) × (t .entries ≡ es)
 unfolding reading
 reading-taken room ws es e = run-taken (framed 0 (stream ws)) (statedBy (numEntries (stream ws))) (run room 0 empty (stream ws)) es e
+
+pub determined : Determined
+determined words rows refs names witness a b r s f g m n p q =
+    let same = p ∙ sym q in
+    (ap (λ (o : Output). o .answer) same, ap (λ (o : Output). o .rows) same, ap (λ (o : Output). o .refs) same, ap (λ (o : Output). o .names) same)
 
 pub reads-back : ReadsBack
 unfolding padded

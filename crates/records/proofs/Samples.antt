@@ -11,9 +11,13 @@ use Rattle.shapes.specs.Shapes.{wholeShape}
 use Rattle.records.specs.Table.{fits}
 use Rattle.records.specs.Records.{after, run}
 use Rattle.records.specs.Read.{reading}
-use Rattle.records.specs.Samples.{Right, samples}
+use Rattle.records.specs.Samples.{Right, samples, tellings}
 
 pub samples-right : Right samples
 unfolding typeCode padded rowsFrom refsOf namesOf pays stream streamIn framed numEntries wholeShape fits after run reading
-samples-right =
-    (refl, (refl, (refl, (refl, (refl, (refl, (refl, (refl, (refl, (refl, (refl, (refl, (refl, (refl, (refl, (refl, (refl, (refl, (refl, (refl, (refl, (refl, (refl, (refl, tt))))))))))))))))))))))))
+samples-right = (refl, (refl, (refl, (refl, (refl, (refl, (refl, (refl, tt))))))))
+
+pub tellings-right : Right tellings
+unfolding typeCode padded rowsFrom refsOf namesOf pays stream streamIn framed numEntries wholeShape fits after run reading
+tellings-right =
+    (refl, (refl, (refl, (refl, (refl, (refl, (refl, (refl, (refl, (refl, (refl, (refl, (refl, (refl, (refl, (refl, tt))))))))))))))))

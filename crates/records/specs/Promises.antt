@@ -1,4 +1,5 @@
 -- What the first pass promises besides its contract, of the definition that the contract cites.
+--     Determined     no second answer and no other outputs fit the contract
 --     ReadsBack      the outputs, read back, are the entries
 --     RowsFormed     the rows are as the checker will ask for, but for widths, kinds and the range of references
 --     InRoom         there are no more entries, references and name bytes than there was room for
@@ -16,9 +17,10 @@ use Rattle.table.specs.Rows.{refsOf, namesOf}
 use Rattle.table.specs.Back.{entriesFrom}
 use Rattle.shapes.specs.declared.Fault.the-variants.{NoRoom}
 use Rattle.formed.specs.Formed.{wellFormed}
+use Rattle.records.specs.declared.Answer.{Answer}
 use Rattle.records.specs.declared.Answer.the-variants.{BadRecord}
 use Rattle.records.specs.Table.{Room}
-use Rattle.records.specs.Read.{taken, refused, reading, Output, shown}
+use Rattle.records.specs.Read.{taken, refused, reading, output, shown, readInto}
 
 pub record Larger (a b : Room) : Type 0 where
   pub entries : a .entries ≤ b .entries
@@ -28,6 +30,13 @@ pub record Larger (a b : Room) : Type 0 where
 -- a refusal with 9, at some record
 abbrev pub NineIn : Room → List ℕ → Type 0
 NineIn room ws = (number : ℕ) × (reading room ws ≡ refused (BadRecord number NoRoom))
+
+-- "Each public answer, with every output after it, is determined for all inputs"
+abbrev pub Determined : Type 0
+Determined =
+    (words rows refs names : List ℕ) (witness : ℕ) (a b : Answer) (r s f g m n : List ℕ)
+    → output a r f m ≡ readInto words rows refs names witness → output b s g n ≡ readInto words rows refs names witness
+    → (a ≡ b) × (r ≡ s) × (f ≡ g) × (m ≡ n)
 
 -- "reading back the flat form gives the entries again"
 abbrev pub ReadsBack : Type 0

@@ -5,12 +5,13 @@
 --     readInto ws r f n w        the whole of it: words ws, outputs that held r, f and n, a witness of length w
 -- Assumes nothing.
 use mathlib.Core.Bool.{cond}
-use mathlib.Core.List.{List, [], _∷_}
+use mathlib.Core.List.{List}
 use Prim.Native.Nat.{ℕ, min}
 use lib.Dec.{eqb}
 use lib.ListN.{length}
 use Rattle.table.specs.Buffers.{zeros, padded}
 use Rattle.table.specs.Entries.{Entry}
+use Rattle.table.specs.Rows as rows
 use Rattle.table.specs.Rows.{entryRoom, rowsOf, refsOf, namesOf}
 use Rattle.stream.specs.declared.Frame.{Frame}
 use Rattle.stream.specs.declared.Frame.the-variants.{Whole, CutAt}
@@ -48,7 +49,7 @@ unfoldable pub reading : Room → List ℕ → Result
 reading room ws = byFrame (framed 0 (stream ws)) (byCount (statedBy (numEntries (stream ws))) (run room 0 empty (stream ws)))
 
 abbrev pub maxEntries : ℕ
-maxEntries = 4096
+maxEntries = rows.maxEntries
 
 -- "the least of 4,096, rows length / 8 rounded down, and witness length"
 abbrev pub roomOf : (rows refs names witness : ℕ) → Room

@@ -9,7 +9,7 @@ use mathlib.Core.List.{List, [], _∷_, _++_}
 use Prim.Native.Nat.{ℕ, _+_}
 use lib.Dec.{ltb}
 use lib.ListN.{length}
-use Rattle.table.specs.Entries.{Name, unnamed, called, Entry}
+use Rattle.table.specs.Entries.{Name, unnamed, called}
 use Rattle.stream.specs.Stream.{Stream, done, cut, rec}
 use Rattle.shapes.specs.declared.Fault.{Fault}
 use Rattle.shapes.specs.declared.Fault.the-variants.{NoRoom}

@@ -32,6 +32,7 @@ abbrev pub Right : List Sample → Type 0
 Right [] = Unit {0}
 Right (s ∷ ss) = (s .seen ≡ s .sight) × Right ss
 
+-- samples of document 01
 abbrev pub samples : List Sample
 samples =
     -- (none): 2, 0, 0
@@ -58,8 +59,13 @@ samples =
     -- 8, 1, 8388608
     ∷ sample (1 ∷ 1 ∷ 1 ∷ 25 ∷ 1 ∷ 8388608 ∷ []) 0 0 0 0 (refusal 8 1 8388608)
     ([]) ([]) ([])
+    ∷ []
+
+-- inputs that tell a reading of the document from another
+abbrev pub tellings : List Sample
+tellings =
     -- a lone code; the head is word 2
-    ∷ sample (99 ∷ 0 ∷ 7 ∷ []) 8 0 0 1 (refusal 1 2 0)
+    sample (99 ∷ 0 ∷ 7 ∷ []) 8 0 0 1 (refusal 1 2 0)
     (0 ∷ 0 ∷ 0 ∷ 0 ∷ 0 ∷ 0 ∷ 0 ∷ 0 ∷ []) ([]) ([])
     -- StructName without fields
     ∷ sample (1 ∷ 1 ∷ 0 ∷ 19 ∷ 0 ∷ []) 8 0 0 1 (refusal 5 1 0)

@@ -5,7 +5,7 @@
 --     Deed                   what a record does; `puts front e`: afterwards the entries are front and, last, e
 --     formOf p fs h from     the entry that a record with the fields fs says, p being the pending name
 -- Assumes nothing.
-use mathlib.Core.Bool.{Bool, true, false, cond, _&&_}
+use mathlib.Core.Bool.{Bool, true, false, _&&_}
 use mathlib.Core.List.{List, []}
 use Prim.Native.Nat.{ℕ}
 use lib.Dec.{leb}

@@ -70,7 +70,7 @@ fn named_on(h: Head, from: usize, f: Filled) -> Deed
     Deed::Put(behind(h, from, f))
 }
 
-pub fn deed_on(s: Shape, f: Filled) -> Deed
+pub(crate) fn deed_on(s: Shape, f: Filled) -> Deed
     ensures { λ r. ⌜ r ≡ deedBy s f ⌝ }
 {
     match s {

@@ -61,7 +61,7 @@ fn take_record(
     }
 }
 
-pub fn read_records(
+pub(crate) fn read_records(
     words: &[u64],
     rows: &mut [u64],
     refs: &mut [u64],
@@ -70,7 +70,8 @@ pub fn read_records(
 ) -> Ended
     requires { ⌜ entries * rowWords ≤ length (now rows) ⌝ }
     ensures { λ r. ⌜ Passed (buffersOf (now (rows .entry)) (now (refs .entry)) (now (names .entry)))
-        (run (roomIn entries (buffersOf (now (rows .entry)) (now (refs .entry)) (now (names .entry)))) 0 empty (stream (now (words .entry))))
+        (run (roomIn entries (buffersOf (now (rows .entry)) (now (refs .entry)) (now (names .entry)))) 0 empty
+        (stream (now (words .entry))))
         r (now (rows .exit)) (now (refs .exit)) (now (names .exit)) ⌝ }
 {
     let mut at = 0;

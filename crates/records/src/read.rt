@@ -21,10 +21,11 @@ use stream::count_of;
 use stream::framing;
 use table::buffer::clear_bytes;
 use table::buffer::clear_words;
+use table::row;
 use table::row::ROW_WORDS;
 use table::row::entry_room;
 
-pub const MAX_ENTRIES: usize = 4096;
+pub const MAX_ENTRIES: usize = row::MAX_ENTRIES as usize;
 
 fn opening_of(words: &[u64]) -> Opening
     ensures { λ r. ⌜ r ≡ openingOf (framed 0 (stream (now (words .entry)))) (statedBy (numEntries (stream (now (words .entry))))) ⌝ }

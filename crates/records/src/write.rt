@@ -88,7 +88,7 @@ fn grow(p: Put, f: Filled) -> Filled
 }
 
 // Of a pending name what does not fit is not kept: a struct that took it would be refused.
-pub fn stage(names: &mut [u8], fields: &[u64], mark: usize)
+pub(crate) fn stage(names: &mut [u8], fields: &[u64], mark: usize)
     ensures { λ _. ⌜ ((xs b : List ℕ) → now (names .entry) ≡ over xs b → mark ≡ length xs
         → now (names .exit) ≡ over (xs ++ lowBytes (now (fields .entry))) b) ⌝ }
 {
@@ -98,7 +98,7 @@ pub fn stage(names: &mut [u8], fields: &[u64], mark: usize)
     put_bytes(&mut names[mark..], fields);
 }
 
-pub fn put(
+pub(crate) fn put(
     fields: &[u64],
     rows: &mut [u64],
     refs: &mut [u64],

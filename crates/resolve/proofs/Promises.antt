@@ -2,27 +2,26 @@
 -- theory's ranks pass; the witness holds what the theory's outcome says.
 -- Assumes nothing.
 use mathlib.Core.Path.{_≡_, refl, sym, ap, _∙_}
-use mathlib.Core.Logic.{_↔_, inl, inr}
+use mathlib.Core.Logic.{inl, inr}
 use mathlib.Core.Bool.{true}
 use mathlib.Core.List.{List, [], _∷_, _++_}
-use Prim.Native.Nat.{ℕ, zero, suc, _+_, _-_, _≤_, _<_}
+use Prim.Native.Nat.{ℕ, zero, suc, _+_, _-_, _≤_}
 use native.Mathlib.Omega.{arith}
 use lib.ListN.{length, getD, length-append}
 use Rattle.table.specs.Buffers.{zeros, padded}
-use Rattle.ranks.specs.Table.{Table, Passes, Lawful, Refers, Fault, IsRing, height}
-use Rattle.ranks.specs.Walk.{Answer, Rank, Ring, Bad, Out, out, resolve, ranksOf}
-use Rattle.ranks.specs.Promises.{Ranked, Round, Blamed, Means, Accepts}
+use Rattle.ranks.specs.Table.{Table, Passes, Fault, height}
+use Rattle.ranks.specs.Walk.{Answer, Rank, Ring, Bad, resolve, ranksOf}
+use Rattle.ranks.specs.Promises.{Ranked, Means}
 use Rattle.ranks.proofs.Marks.{getD-zeros}
 use Rattle.ranks.proofs.Paths.{each-of-mem}
 use Rattle.ranks.proofs.Heights.{height-same}
 use Rattle.ranks.proofs.Promises.{resolve-deserved}
 use Rattle.rules.specs.Lawful.{tableOf}
 use Rattle.walk.specs.declared.Resolution.{Resolution}
-use Rattle.walk.specs.Answers.{Paper, accepted, refused, cycle, paperOf, paperIn}
+use Rattle.walk.specs.Answers.{accepted, refused, cycle, paperOf, paperIn}
 use Rattle.walk.specs.Resolve.{witnessBy, Resolves}
-use Rattle.checker.specs.Checked.{checked}
 use Rattle.resolve.specs.Formed.{wellFormed}
-use Rattle.resolve.specs.Promises.{Lowest, RingFirst, Demand3, Determined, Flat}
+use Rattle.resolve.specs.Promises.{Lowest, Demand3, Determined, Flat}
 use Rattle.resolve.specs.Entries.{entriesFrom}
 use Rattle.resolve.proofs.Laws.Checked.{checked-passes, passes-checked}
 use Rattle.resolve.proofs.Laws.Entries.{holds-wellFormed, holds-unique}

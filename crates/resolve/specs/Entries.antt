@@ -1,7 +1,8 @@
 -- A table as a list of entries (table/specs/Entries), and buffers that hold its flat form.
 --     Begins whole part            the list whole begins with part
---     formedEntry x                the words that x says of itself are well formed
+--     formedEntry x                the words that x says of itself are well formed;  EachFormed es  of each
 --     Holds rows refs names es     the buffers begin with the flat form of the entries es, each well formed
+--     nameBy, entryAt .. e         the name and the entry that row e says
 --     entriesFrom .. n 0           the entries that the first n rows say
 -- Assumes nothing.
 use mathlib.Core.Path.{_≡_}
@@ -12,7 +13,7 @@ use lib.ListN.{length, take, drop}
 use Rattle.table.specs.Entries.{Name, unnamed, called, Entry}
 use Rattle.table.specs.Rows.{rowAt, rowOf, rowsOf, refsOf, namesOf}
 use Rattle.rules.specs.Lawful.{maxEntries, refsAt}
-use Rattle.checker.specs.Form.{formed}
+use Rattle.formed.specs.Form.{formed}
 
 pub record Begins (whole part : List ℕ) : Type 0 where
   pub rest : List ℕ

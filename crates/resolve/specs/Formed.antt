@@ -1,4 +1,5 @@
 -- Document 01, "Resolution": what of the checker's answer speaks neither of the rules that the walk judges nor of ranks.
+--     formedFrom .. left e r k         so are the rows from e on, behind r references and k name bytes
 --     wellFormed rows refs names n     the first n rows are well formed, as the first pass leaves them
 -- Assumes nothing.
 use mathlib.Core.Bool.{Bool, true, _&&_}

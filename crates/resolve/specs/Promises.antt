@@ -42,10 +42,11 @@ pub record Demand3 (rows refs names : List ℕ) (n room : ℕ) (r : Resolution) 
   -- 1. the walk accepts exactly if some list of ranks passes the checker
   pub decided : (paperOf r ≡ accepted) ↔ ((ranks : List ℕ) × (checked rows refs names ranks n ≡ true))
   pub ranked : paperOf r ≡ accepted → Lowest rows refs names n w
-  -- 3. and no list of ranks can pass
+  -- 3. a refusal 19 shows a ring
   pub ring : (k m : ℕ) → paperOf r ≡ refused cycle k m → RingFirst rows refs n room k m w
   -- 4. every other refusal names a rule that is broken at that place, and the first that the order of 01 meets
   pub blamed : (p e d : ℕ) → paperOf r ≡ refused p e d → (p ≡ cycle → ⊥) → Blamed (tableOf rows refs n) p e d × (w ≡ zeros room)
+  -- and where anything is refused, no list of ranks can pass
   pub refuted : (p e d : ℕ) → paperOf r ≡ refused p e d → (ranks : List ℕ) → checked rows refs names ranks n ≡ true → ⊥
 
 -- 5. the answer and the whole witness are determined
@@ -53,8 +54,9 @@ abbrev pub Determined : List ℕ → List ℕ → ℕ → ℕ → Type 0
 Determined rows refs n room =
     (r s : Resolution) (w v : List ℕ) → Resolves rows refs n room r w → Resolves rows refs n room s v → (r ≡ s) × (w ≡ v)
 
+-- what the checker's yes means of the rows
 abbrev pub Flat : List ℕ → List ℕ → List ℕ → List ℕ → ℕ → Type 0
 Flat rows refs names ranks n =
-    ((checked rows refs names ranks n ≡ true) ↔ ((es : List Entry) × (length es ≡ n) × Holds rows refs names es × Passes
-    (tableOf rows refs n) ranks))
+    ((checked rows refs names ranks n ≡ true)
+    ↔ ((es : List Entry) × (length es ≡ n) × Holds rows refs names es × Passes (tableOf rows refs n) ranks))
     × ((es fs : List Entry) → Holds rows refs names es → Holds rows refs names fs → length es ≡ length fs → es ≡ fs)

@@ -2,6 +2,7 @@
 --     maxEntries             how many entries a table has at most
 --     refsAt rows refs e     the references of entry e; a stretch that leaves the buffer is clipped
 --     badWidth, numberOf     the refusals' numbers
+--     firstBad .. i refs     the first reference, from number i on, whose kind may not stand there
 --     ruleAt rows refs e     the own rule of entry e: kept, or the refusal's number and detail
 --     tableOf rows refs n    the first n entries
 -- Assumes nothing.
@@ -12,6 +13,7 @@ use lib.Dec.{eqb}
 use lib.ListN.{take, drop}
 use Rattle.units.specs.Limits.{isIntegerWidth}
 use Rattle.kinds.specs.Kinds.{integer}
+use Rattle.table.specs.Rows as rows
 use Rattle.table.specs.Rows.{rowAt}
 use Rattle.ranks.specs.Table.{Verdict, kept, broken, Table}
 use Rattle.rules.specs.declared.Place.{Place}
@@ -21,7 +23,7 @@ use Rattle.rules.specs.Counts.{counted}
 
 -- "the count is at most 4,096"
 abbrev pub maxEntries : ℕ
-maxEntries = 4096
+maxEntries = rows.maxEntries
 
 abbrev pub refsAt : List ℕ → List ℕ → ℕ → List ℕ
 refsAt rows refs e = take (rowAt rows e .count) (drop (rowAt rows e .first) refs)

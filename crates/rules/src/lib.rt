@@ -11,10 +11,11 @@ use kinds::kind::POINTER;
 use kinds::kind::SCALABLE_VECTOR;
 use kinds::kind::STRUCT;
 use kinds::place;
+use table::row;
 use table::row::Row;
 
 // "9 is given exactly if the record needs an entry beyond the least of 4,096, .." and "the count is at most 4,096" (01).
-pub const MAX_ENTRIES: u64 = 4_096;
+pub const MAX_ENTRIES: u64 = row::MAX_ENTRIES;
 
 // The places of "Allowed kinds" (01), and that of a reference for which it has no line: a kind that has no references.
 pub enum Place {

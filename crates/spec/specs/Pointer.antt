@@ -5,7 +5,6 @@
 -- Assumes nothing.
 use mathlib.Core.List.{List, [], _∷_}
 use Prim.Native.Nat.{ℕ}
-use Rattle.units.specs.declared.align.Align.{Align}
 use Rattle.layout.specs.declared.pointers.PointerAlignSpec.{PointerAlignSpec}
 use Rattle.layout.specs.Defaults.{pointerRow}
 use Rattle.fields.specs.declared.numbers.Fault.the-variants.{BadSpecParse, BadPointerAbi}

@@ -1,5 +1,5 @@
 -- Document 01, "Type stream and table": the rows, references and names of a table. No other file knows a row's words.
---     rowWords             how many words a row has (2026-07: nine)
+--     rowWords             how many words a row has (2026-07: nine);  maxEntries  how many entries a table has at most
 --     rowAt rows e         the row of entry e; a word that is not there reads as 0
 --     rowsOf es            the rows of the entries es;  refsOf es, namesOf es  their references and names
 -- Assumes nothing.
@@ -7,11 +7,15 @@ use mathlib.Core.List.{List, [], _∷_, _++_}
 use Prim.Native.Nat.{ℕ, zero, suc, _+_, _*_, _/_}
 use lib.ListN.{length, getD}
 use Rattle.table.specs.declared.row.Row.{Row}
-use Rattle.table.specs.Entries.{Name, Entry, bytesOf, namedOf}
+use Rattle.table.specs.Entries.{Entry, bytesOf, namedOf}
 
 -- "rows (8 words an entry)"
 abbrev pub rowWords : ℕ
 rowWords = 8
+
+-- "the least of 4,096, .."; "the count is at most 4,096"
+abbrev pub maxEntries : ℕ
+maxEntries = 4096
 
 -- "rows length / 8 rounded down"
 abbrev pub entryRoom : ℕ → ℕ

@@ -8,6 +8,9 @@ use crate::buffer::put_words;
 
 pub const ROW_WORDS: usize = 8;
 
+// "the least of 4,096, .." and "the count is at most 4,096" (01): no table has more entries.
+pub const MAX_ENTRIES: u64 = 4_096;
+
 pub struct Row {
     pub kind: u64,
     pub number: u64,

@@ -1,10 +1,10 @@
 -- Document 01, "Refusal numbers" 11 to 19: the number, place and detail of each answer.
 --     numberIn, detailIn     the number and the detail of a fault
 --     verdictOf j            what an entry's own rule says, in these numbers
+--     cycle                  the number of a cycle
 --     Paper                  an answer as the document writes it: accepted, or number, place, detail
 --     paperOf r              the paper's answer for the case r;  paperIn a  the paper's answer for the walk's outcome a
 -- Assumes nothing.
-use mathlib.Core.List.{List}
 use Prim.Native.Nat.{ℕ}
 use lib.ListN.{length, getD}
 use Rattle.ranks.specs.Table.{Verdict, kept, broken, outOfRange}

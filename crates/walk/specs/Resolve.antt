@@ -1,6 +1,6 @@
 -- Document 01, "Resolution": what the second pass answers and leaves in the lent witness.
 --     entriesOf count words room   how many entries are walked: those whose rows lie in so many words and for which the witness has room
---     witnessIn o                  the words that the outcome o leaves first in the witness
+--     witnessBy, witnessIn o       the words that the outcome o leaves first in the witness
 --     Resolves                     the answer, and the whole witness
 -- Assumes nothing.
 use mathlib.Core.Path.{_≡_}

@@ -1,8 +1,6 @@
 // "then its own rule is judged" (01, "Resolution"): the width of an integer, the kinds that an entry refers to.
 ghost use mathlib.Core.Path.{_≡_};
-ghost use Prim.Native.Nat.{_+_, _≤_};
-ghost use lib.ListN.{length, take, drop};
-ghost use Rattle.table.specs.Rows.{rowAt};
+ghost use Prim.Native.Nat.{_+_};
 ghost use Rattle.rules.specs.Lawful.{firstBad, ruleAt};
 ghost use Rattle.walk.specs.Answers.{verdictOf};
 ghost use Rattle.walk.specs.Marks.{Clipped};

@@ -52,6 +52,7 @@ fn finish(rows: &[u64], refs: &[u64], marks: &mut [u64], e: usize, rank: Rank) -
     }
 }
 
+// "a finished entry is not walked again. Meeting an unfinished entry is refusal 19": a mark says which, and at which depth.
 fn resolve_entry(rows: &[u64], refs: &[u64], marks: &mut [u64], depth: usize, e: usize) -> Walked
     requires within { ⌜ e < length (now marks) ⌝ }
     requires ready { ⌜ Ready (now marks) depth depth ⌝ }

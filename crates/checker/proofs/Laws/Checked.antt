@@ -1,8 +1,8 @@
 -- Laws of specs/Checked.antt, one for each way through the code.
 -- Assumes nothing.
-use mathlib.Core.Path.{_≡_, refl, sym, ap, _∙_}
+use mathlib.Core.Path.{_≡_, sym, ap, _∙_}
 use mathlib.Core.Bool.{Bool, true, false, not, _&&_, _||_}
-use mathlib.Core.List.{List, [], _∷_}
+use mathlib.Core.List.{List}
 use Prim.Native.Nat.{ℕ, zero, suc, _+_, _-_, _≤_, _<_}
 use native.Mathlib.Numerals.{add-one}
 use native.Mathlib.Omega.{arith}
@@ -10,7 +10,7 @@ use lib.Dec.{eqb, leb, ltb}
 use lib.ListN.{length, getD, take, drop}
 use lib.Seq.{drop-cons, drop-length}
 use borrow.Author.Tests.{eqb-true, leb-true, lt-leb, le-leb, lt-ltb, le-ltb}
-use Rattle.laws.proofs.Bools.{and-true}
+use Rattle.laws.proofs.Conjunctions.{and-true}
 use Rattle.kinds.specs.Places.{allowed}
 use Rattle.kinds.specs.Kinds.{integer}
 use Rattle.units.specs.Limits.{isIntegerWidth}
@@ -19,8 +19,8 @@ use Rattle.table.specs.Rows.{entryRoom, rowAt, placeOf}
 use Rattle.rules.specs.declared.Place.{Place}
 use Rattle.rules.specs.Places.{placeAt, notAllowed, suits}
 use Rattle.rules.specs.Counts.{counted}
-use Rattle.rules.specs.Lawful.{maxEntries, refsAt}
-use Rattle.checker.specs.Form.{formed, placed}
+use Rattle.rules.specs.Lawful.{maxEntries}
+use Rattle.formed.specs.Form.{formed, placed}
 use Rattle.checker.specs.Checked.{everyFrom, refers, lawful, rowOk, entryOk, rowsFrom, checked}
 
 -- a reference out of range, and one in range, in the code's words

@@ -1,8 +1,7 @@
 -- Laws of specs/Apply.antt: what is put into the layout, by whether there was room, and a spec by what it says.
 -- Assumes nothing.
-use mathlib.Core.Path.{_≡_, refl, sym, ap, _∙_}
+use mathlib.Core.Path.{_≡_}
 use mathlib.Core.Bool.{true, false}
-use Rattle.layout.specs.declared.numbers.Numbers.{Numbers}
 use Rattle.layout.specs.declared.pointers.PointerAlignSpec.{PointerAlignSpec}
 use Rattle.layout.specs.declared.pointers.UpdatedPointers.{UpdatedPointers}
 use Rattle.layout.specs.declared.record.DataLayout.{DataLayout}
@@ -14,7 +13,6 @@ use Rattle.layout.specs.Types.{updatedTypes}
 use Rattle.fields.specs.declared.numbers.Fault.the-variants.{ListFull}
 use Rattle.spec.specs.declared.spec.Read.{Read}
 use Rattle.spec.specs.declared.spec.Spec.{Spec}
-use Rattle.datalayout.specs.declared.apply.Applied.{Applied}
 use Rattle.datalayout.specs.Apply.{doneWith, refusedBy, typeApplied, pointerApplied, specApplied, applied}
 
 module _ (layout : DataLayout) (row : TypeAlignSpec) (updated : UpdatedTypes)

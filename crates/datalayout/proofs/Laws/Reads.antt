@@ -15,7 +15,6 @@ use Rattle.units.specs.Align.{bitsInByte, shiftBelow}
 use Rattle.units.specs.Decimal.{decimal, u64Most}
 use Rattle.units.proofs.Laws.Align.{eq-of-alignment}
 use Rattle.units.proofs.Laws.Decimal.{Within, decimal-within}
-use Rattle.layout.specs.declared.pointers.PointerAlignSpec.{PointerAlignSpec}
 use Rattle.layout.specs.declared.types.AlignedType.{AlignedType}
 use Rattle.layout.specs.declared.types.TypeAlignSpec.{TypeAlignSpec}
 use Rattle.layout.specs.Defaults.{typeRow}

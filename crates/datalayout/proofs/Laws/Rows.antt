@@ -1,17 +1,15 @@
 -- Rows that a new one was put among keep to what `SoundRows` says, whatever their kind.
 -- Assumes nothing.
-use mathlib.Core.Path.{_≡_, refl, sym, ap, _∙_}
+use mathlib.Core.Path.{_≡_, refl, ap, _∙_}
 use mathlib.Core.Bool.{Bool, true, false, _&&_, cond, not}
 use mathlib.Core.List.{List, [], _∷_, _++_}
-use Prim.Native.Nat.{ℕ, suc, _+_, _-_, _≤_, _<_}
+use Prim.Native.Nat.{ℕ, suc, _+_, _-_, _≤_}
 use native.Mathlib.Omega.{arith}
-use lib.Dec.{T, eqb, leb}
+use lib.Dec.{T, eqb}
 use lib.ListN.{length, take, drop, length-append, length-drop}
 use lib.Seq.{length-take-le, take-append-seam}
 use borrow.Author.Tests.{leb-true, eqb-true}
 use Rattle.laws.proofs.Bools.{T-and}
-use Rattle.layout.specs.declared.pointers.PointerAlignSpec.{PointerAlignSpec}
-use Rattle.layout.specs.declared.types.TypeAlignSpec.{TypeAlignSpec}
 use Rattle.layout.specs.Pointers.{sameSpace}
 use Rattle.layout.specs.Rows.{placed, rowsAfter, countAfter, fits}
 use Rattle.layout.specs.Types.{rankOf, sameType}

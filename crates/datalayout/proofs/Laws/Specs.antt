@@ -3,14 +3,13 @@
 use mathlib.Core.Path.{_≡_, refl}
 use mathlib.Core.Bool.{Bool, true, false, cond}
 use mathlib.Core.List.{List, [], _∷_}
-use Prim.Native.Nat.{ℕ, _+_, _≤_, _<_}
+use Prim.Native.Nat.{ℕ, _+_, _≤_}
 use native.Mathlib.Omega.{arith}
 use lib.Dec.{eqb, ltb}
 use lib.ListN.{set}
 use borrow.Author.Tests.{ltb-true}
 use Rattle.laws.proofs.Conds.{by-cond}
 use Rattle.layout.specs.declared.numbers.Numbers.{Numbers}
-use Rattle.layout.specs.declared.record.FunctionPointerAlign.the-variants.{Independent, MultipleOfFunctionAlign}
 use Rattle.layout.specs.declared.record.Listed.{Listed}
 use Rattle.layout.specs.declared.record.Listed.the-variants.{NativeIntegerWidths, NonIntegralAddressSpaces}
 use Rattle.layout.specs.declared.record.Memory.{Memory}
@@ -37,8 +36,8 @@ use Rattle.spec.specs.Edition.{manglingLetter}
 use Rattle.spec.specs.Letters.{chosen}
 use Rattle.spec.specs.Lists.{refused, numberIn, onward, numbersFrom, nonIntegralList, numbersIn}
 use Rattle.spec.specs.Pointer.{pointerIn}
-use Rattle.spec.specs.Specs.{stackOf, stackIn, addressSpaceOf, addressSpaceIn, pointerOf, typeOf}
-use Rattle.spec.specs.Specs.{functionLetter, functionOf, functionPointerIn, manglingIn, plainIn, specIn}
+use Rattle.spec.specs.Specs.{stackOf, addressSpaceOf, addressSpaceIn, pointerOf, typeOf}
+use Rattle.spec.specs.Specs.{functionOf, functionPointerIn, manglingIn, plainIn, specIn}
 use Rattle.spec.specs.Typed.{typeIn}
 use Rattle.datalayout.specs.Promises.{PowerOfTwo, FunctionAligned, TypeAligned, PointerAligned, Each}
 use Rattle.datalayout.proofs.Laws.Reads.{AlignSound, TypeSound, PointerSound, alignIn-sound, typeIn-sound, pointerIn-sound}

@@ -1,22 +1,21 @@
 -- Laws of specs/Formed.antt: the flat form of entries whose rows are formed is well formed.
 --     FormedEntry x, Every es     the row of x is formed; so are those of es
 -- Assumes nothing.
-use mathlib.Core.Path.{_≡_, refl, sym, ap, _∙_}
-use mathlib.Core.Bool.{Bool, true, false, _&&_}
+use mathlib.Core.Path.{_≡_, refl, ap}
+use mathlib.Core.Bool.{true, _&&_}
 use mathlib.Core.List.{List, [], _∷_, _++_}
-use Prim.Native.Nat.{ℕ, zero, suc, _+_, _-_, _*_, _≤_}
+use Prim.Native.Nat.{ℕ, suc, _+_, _-_, _≤_}
 use native.Mathlib.Omega.{arith}
-use lib.Dec.{eqb, leb}
 use lib.ListN.{length, length-append}
 use borrow.Author.Tests.{le-leb, eq-eqb}
 use Rattle.laws.proofs.Told.{and-both}
 use Rattle.table.specs.declared.row.Row.{Row}
 use Rattle.table.specs.Entries.{Entry, bytesOf}
-use Rattle.table.specs.Rows.{rowWords, entryRoom, rowAt, placeOf, rowOf, rowsOf, refsOf, namesOf}
+use Rattle.table.specs.Rows.{entryRoom, rowAt, placeOf, rowOf, rowsOf, refsOf, namesOf}
 use Rattle.table.proofs.Laws.Rows.{length-rowsOf}
 use Rattle.table.proofs.Laws.Back.{Flat, Flat-row, Flat-next, Flat-whole}
 use Rattle.formed.specs.Form.{formed, placed}
-use Rattle.formed.specs.Formed.{rowOk, formedFrom, wellFormed}
+use Rattle.formed.specs.Formed.{formedFrom, wellFormed}
 
 abbrev pub FormedEntry : Entry → Type 0
 FormedEntry x = formed (rowOf 0 0 x) ≡ true

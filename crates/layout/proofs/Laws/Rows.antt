@@ -3,16 +3,13 @@
 --     placed-..        the rows with a new one, by its place
 --     full, appended, replaced     `fits`, `rowsAfter` and `countAfter` on the three ways through an update
 -- Assumes nothing.
-use mathlib.Core.Path.{_≡_, refl, sym, ap, _∙_}
+use mathlib.Core.Path.{_≡_, refl, sym, ap}
 use mathlib.Core.Bool.{Bool, true, false, cond}
 use mathlib.Core.List.{List, [], _∷_, _++_, append-assoc}
-use mathlib.Core.Logic.{_⊎_, inl, inr, ⊎-elim}
 use Prim.Native.Nat.{ℕ, zero, suc, _+_, _-_, _≤_, _<_}
-use native.Mathlib.Nat.{eq-or-lt-of-le, le-total}
 use native.Mathlib.Numerals.{add-one}
 use native.Mathlib.Omega.{arith}
-use lib.Dec.{leb}
-use lib.ListN.{length, getD, take, drop, set, length-take, length-append, length-set, take-append-drop, drop-of-length-le}
+use lib.ListN.{length, getD, take, drop, set, length-take, length-append, length-set, drop-of-length-le}
 use lib.Seq.{drop-cons, getD-take, set-split, set-append-left}
 use borrow.Author.Tests.{le-leb, lt-leb}
 use Rattle.layout.specs.Rows.{placed, placeOf, rowsAfter, countAfter, fits}

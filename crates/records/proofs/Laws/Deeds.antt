@@ -5,12 +5,12 @@
 use mathlib.Core.Path.{_≡_, refl, sym, ap, _∙_}
 use mathlib.Core.Bool.{Bool, true, false, cond, _||_}
 use mathlib.Core.List.{List, [], _∷_, _++_, append-nil}
-use Prim.Native.Nat.{ℕ, zero, suc, _+_, _-_, _≤_, _<_}
+use Prim.Native.Nat.{ℕ, suc, _+_, _-_, _≤_}
 use native.Mathlib.Omega.{arith}
 use lib.Dec.{eqb, ltb}
 use lib.ListN.{length, take, drop, length-append, length-drop}
 use lib.Seq.{length-take-le}
-use borrow.Author.Tests.{ltb-false, eqb-true}
+use borrow.Author.Tests.{ltb-false}
 use Rattle.laws.proofs.Told.{no, or-told}
 use Rattle.kinds.specs.Kinds.{struct}
 use Rattle.table.specs.Entries.{Name, unnamed, called, Form, Entry, bytesOf}
@@ -27,9 +27,9 @@ use Rattle.records.specs.declared.Deed.{Deed}
 use Rattle.records.specs.declared.Deed.the-variants as deed
 use Rattle.records.specs.Table as table
 use Rattle.records.specs.Table.{Table, formOf, entryOf, nameIf}
-use Rattle.records.specs.Fill.{lastForm, frontOf, isNamed, isStruct, named, refilled, opaqueOn, namedOn}
+use Rattle.records.specs.Fill.{lastForm, frontOf, isNamed, isStruct, named, refilled}
 use Rattle.records.specs.Records.{deedOn}
-use Rattle.records.specs.Values.{headOf, filledOf, behind, inLast, opaqueBy, namedBy, deedBy}
+use Rattle.records.specs.Values.{headOf, filledOf, behind, inLast, deedBy}
 use Rattle.records.specs.Putting.{Fits, Puts}
 
 abbrev pub FitsDeed : Deed → Filled → ℕ → Type 0

@@ -1,10 +1,10 @@
 -- With room enough no record is refused for room: each record asks for so much and no more.
 --     Enough r     there is a room from which on r is no 9
 -- Assumes nothing.
-use mathlib.Core.Path.{_≡_, refl, ap, _∙_}
+use mathlib.Core.Path.{_≡_, refl}
 use mathlib.Core.Bool.{Bool, true, false, cond, _||_}
 use mathlib.Core.List.{List, [], _∷_, _++_}
-use Prim.Native.Nat.{ℕ, _+_, _≤_}
+use Prim.Native.Nat.{ℕ, _+_}
 use native.Mathlib.Omega.{arith}
 use lib.Dec.{ltb}
 use lib.ListN.{length}
@@ -19,7 +19,7 @@ use Rattle.shapes.specs.declared.Shape.the-variants as says
 use Rattle.shapes.specs.Shapes.{shapeIn}
 use Rattle.records.specs.Table.{Table, Room, fits, Deed, passes, pends, puts, refuses}
 use Rattle.records.specs.Fill.{lastForm, isNamed, isStruct}
-use Rattle.records.specs.Records.{deedOn, Outcome, go, stop, pendingAfter, after, stepOf, Ran, whole, bad, onward, run}
+use Rattle.records.specs.Records.{deedOn, pendingAfter, after, Ran, bad, onward, run}
 use Rattle.records.specs.Promises.{Larger}
 use Rattle.records.proofs.Laws.Room.{isNoRoom, Early, shapeIn-early, fits-of}
 

@@ -1,11 +1,11 @@
 -- What the records do to the entries: every entry of a table that was read is formed, and the table has room.
 -- Assumes nothing.
-use mathlib.Core.Path.{_≡_, refl, sym, ap, _∙_}
+use mathlib.Core.Path.{_≡_, refl}
 use mathlib.Core.Bool.{Bool, true, false, cond, _&&_, _||_}
 use mathlib.Core.List.{List, [], _∷_, _++_}
-use Prim.Native.Nat.{ℕ, zero, suc, _+_, _-_, _≤_, _<_}
+use Prim.Native.Nat.{ℕ, _+_, _≤_}
 use native.Mathlib.Omega.{arith}
-use lib.Dec.{T, eqb, leb, ltb}
+use lib.Dec.{eqb, leb, ltb}
 use lib.ListN.{length, take, drop, length-drop}
 use lib.Seq.{length-take-le}
 use borrow.Author.Tests.{eqb-true}
@@ -13,7 +13,6 @@ use Rattle.laws.proofs.Told.{no, and-told}
 use Rattle.laws.proofs.Bools.{or-true}
 use Rattle.kinds.specs.Kinds.{struct}
 use Rattle.table.specs.Entries.{Name, unnamed, called, Form, Entry, bytesOf, namedOf}
-use Rattle.table.specs.Rows.{rowOf}
 use Rattle.stream.specs.Stream.{Stream, done, cut, rec}
 use Rattle.shapes.specs.declared.Head.{Head}
 use Rattle.shapes.specs.declared.Fault.the-variants.{AlreadyFilled, NoRoom}
@@ -24,8 +23,8 @@ use Rattle.shapes.proofs.Laws.Shapes.{lastField, shapeIn-inside}
 use Rattle.formed.specs.Form.{formed}
 use Rattle.formed.proofs.Laws.Formed.{FormedEntry, Every}
 use Rattle.records.specs.Table.{Table, Room, fits, Deed, passes, pends, puts, refuses, formOf, entryOf, nameIf}
-use Rattle.records.specs.Fill.{lastForm, frontOf, isNamed, isStruct, named, refilled}
-use Rattle.records.specs.Records.{deedOn, Outcome, go, stop, pendingAfter, after, stepOf, Ran, whole, bad, onward, run}
+use Rattle.records.specs.Fill.{lastForm, frontOf, isNamed, isStruct, named}
+use Rattle.records.specs.Records.{deedOn, Outcome, go, stop, pendingAfter, after, stepOf, whole, onward, run}
 use Rattle.records.proofs.Laws.Forms.{FairHead, Fair, shapeIn-fair}
 
 Every-snoc : (es : List Entry) (e : Entry) → Every es → FormedEntry e → Every (es ++ (e ∷ []))

@@ -1,38 +1,34 @@
 -- Every entry that the first pass takes is formed: by the code of its record, and by the last entry where that is filled.
 --     FairHead h     a row with the head h is formed, whatever its name's length
 -- Assumes nothing.
-use mathlib.Core.Path.{_≡_, refl, sym, ap, _∙_}
-use mathlib.Core.Bool.{Bool, true, false, cond, _&&_, _||_}
-use mathlib.Core.List.{List, [], _∷_, _++_}
-use Prim.Native.Nat.{ℕ, zero, suc, _+_, _-_, _≤_, _<_}
+use mathlib.Core.Path.{_≡_, refl, _∙_}
+use mathlib.Core.Bool.{Bool, true, false, cond, _&&_}
+use mathlib.Core.List.{List, [], _∷_}
+use Prim.Native.Nat.{ℕ, _-_, _≤_}
 use native.Mathlib.Omega.{arith}
 use lib.Dec.{T, eqb, leb, ltb}
-use lib.ListN.{length, take, drop, length-drop}
-use lib.Seq.{length-take-le}
-use borrow.Author.Tests.{le-leb, ltb-false, eqb-true, leb-true}
+use lib.ListN.{length}
+use borrow.Author.Tests.{le-leb, ltb-false, leb-true}
 use Rattle.laws.proofs.Told.{and-true}
 use Rattle.laws.proofs.Bools.{T-true, T-and, or-true}
-use Rattle.laws.proofs.Runs.{holdsFrom, holds-of-run}
+use Rattle.laws.proofs.Runs.{holds-of-run}
 use Rattle.units.specs.Limits.{isAddressSpace}
 use Rattle.kinds.specs.Kinds.{struct, function}
 use Rattle.kinds.specs.declared.code.TypeCode.{TypeCode}
 use Rattle.kinds.specs.declared.code.TypeCode.the-variants as code
 use Rattle.kinds.specs.Codes.{Numbered, codes, codeIn, typeCode}
 use Rattle.table.specs.declared.row.Row.{Row}
-use Rattle.table.specs.Entries.{Name, unnamed, called, Form, Entry, bytesOf, namedOf}
-use Rattle.table.specs.Rows.{rowOf}
+use Rattle.table.specs.Entries.{Name}
 use Rattle.shapes.specs.declared.Head.{Head}
 use Rattle.shapes.specs.declared.Seen.{Seen}
-use Rattle.shapes.specs.declared.Fault.the-variants.{LacksField, BadName, SpaceTooLarge, NamelessOpaque}
+use Rattle.shapes.specs.declared.Fault.the-variants.{LacksField, BadName, SpaceTooLarge}
 use Rattle.shapes.specs.declared.Shape.{Shape}
 use Rattle.shapes.specs.declared.Shape.the-variants as says
-use Rattle.shapes.specs.Shapes.{needed, flagOf, adds, spaced, vectorKind, namedStruct, opaqueIf, wholeShape, shapeOf, seenIn, spelled}
+use Rattle.shapes.specs.Shapes.{needed, adds, spaced, namedStruct, opaqueIf, wholeShape, shapeOf, seenIn, spelled}
 use Rattle.shapes.specs.Shapes.{shapeIn}
 use Rattle.utf8.specs.Utf8.{isUtf8}
 use Rattle.formed.specs.Form.{formed}
-use Rattle.formed.proofs.Laws.Formed.{FormedEntry, Every}
-use Rattle.records.specs.Table.{formOf, entryOf, nameIf}
-use Rattle.records.specs.Fill.{lastForm, frontOf, isStruct, named, refilled}
+use Rattle.records.specs.Fill.{named}
 
 -- a head with a name's length, as a row
 abbrev rowBy : Head → ℕ → Row

@@ -3,13 +3,13 @@
 use mathlib.Core.Path.{_≡_, refl, sym, ap, _∙_}
 use mathlib.Core.Bool.{Bool, true, false, cond}
 use mathlib.Core.List.{List, [], _++_, append-nil}
-use Prim.Native.Nat.{ℕ, _+_, _-_, _*_, _≤_, _<_}
+use Prim.Native.Nat.{ℕ, _-_, _*_, _≤_}
 use native.Mathlib.Omega.{arith}
 use lib.Dec.{eqb}
 use lib.ListN.{length, take, drop}
 use Rattle.laws.proofs.Told.{no}
 use Rattle.laws.proofs.Rests.{rest-part, rest-none}
-use Rattle.table.specs.Buffers.{over, zeros, padded}
+use Rattle.table.specs.Buffers.{over, zeros}
 use Rattle.table.specs.Rows.{rowWords, rowsOf, refsOf, namesOf}
 use Rattle.table.proofs.Laws.Buffers.{padded-rest}
 use Rattle.table.proofs.Laws.Rows.{length-rowsOf}
@@ -30,7 +30,7 @@ use Rattle.records.specs.declared.Ended.{Ended}
 use Rattle.records.specs.declared.Ended.the-variants.{AtEnd, AtRecord}
 use Rattle.records.specs.Table.{Table, Room, empty}
 use Rattle.records.specs.Records.{Ran, whole, bad, run}
-use Rattle.records.specs.Read.{Result, taken, refused, byEntries, byCount, byFrame, reading, Output, output, shown}
+use Rattle.records.specs.Read.{Result, taken, refused, byEntries, byCount, byFrame, reading, output, shown}
 use Rattle.records.specs.Values.{filledOf}
 use Rattle.records.specs.Held.{Buffers, Holds, Passed, openingOf, keepNone, keepAll, Left}
 

@@ -1,17 +1,17 @@
 -- Laws of specs/Putting.antt: an entry that is put makes the row, the marks and the room of the table with that entry last.
 -- Assumes nothing.
 use mathlib.Core.Path.{_≡_, refl, sym, ap, _∙_}
-use mathlib.Core.Bool.{Bool, true, false, cond, _&&_}
+use mathlib.Core.Bool.{Bool, true, false, cond}
 use mathlib.Core.List.{List, [], _∷_, _++_, append-nil, append-assoc}
-use Prim.Native.Nat.{ℕ, zero, suc, _+_, _-_, _*_, _≤_, _<_}
+use Prim.Native.Nat.{ℕ, _+_, _-_, _≤_}
 use native.Mathlib.Omega.{arith}
 use lib.Dec.{leb, ltb}
 use lib.ListN.{length, take, drop, length-append, length-drop}
 use lib.Seq.{length-take-le}
-use borrow.Author.Tests.{le-leb, lt-leb, lt-ltb, le-ltb, ltb-true, ltb-false}
+use borrow.Author.Tests.{le-leb, lt-leb, ltb-true, ltb-false}
 use Rattle.table.specs.declared.row.Row.{Row}
 use Rattle.table.specs.Entries.{Name, Entry, bytesOf, namedOf}
-use Rattle.table.specs.Rows.{placeOf, wordsOf, rowOf, refsOf, namesOf}
+use Rattle.table.specs.Rows.{wordsOf, rowOf, refsOf, namesOf}
 use Rattle.table.proofs.Laws.Rows.{refsOf-snoc, namesOf-snoc}
 use Rattle.shapes.specs.declared.Head.{Head}
 use Rattle.records.specs.declared.Filled.{Filled}

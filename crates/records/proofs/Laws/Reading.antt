@@ -1,21 +1,20 @@
 -- The loop over the records. Its invariant, `Reading`: the outputs hold a table from which what is left gives what the whole gives.
 -- Assumes nothing.
-use mathlib.Core.Path.{_≡_, refl, sym, ap, _∙_}
+use mathlib.Core.Path.{_≡_, refl, ap, _∙_}
 use mathlib.Core.Bool.{false}
-use mathlib.Core.List.{List, [], _∷_, _++_}
+use mathlib.Core.List.{List}
 use Prim.Native.Nat.{ℕ, _+_, _-_, _*_, _≤_, _<_, _^_}
 use native.Mathlib.Omega.{arith}
 use lib.ListN.{length, take, drop}
 use lib.Seq.{take-nil}
 use Rattle.laws.proofs.Told.{no}
 use Rattle.table.specs.Buffers.{over}
-use Rattle.table.specs.Rows.{rowWords, rowsFrom, rowsOf, refsOf, namesOf}
+use Rattle.table.specs.Rows.{rowWords, rowsFrom, refsOf, namesOf}
 use Rattle.stream.specs.declared.Found.{Found}
 use Rattle.stream.specs.declared.Found.the-variants.{End, Cut, Record}
-use Rattle.stream.specs.Stream.{Stream, done, cut, rec, stream, recordAt}
+use Rattle.stream.specs.Stream.{stream, recordAt}
 use Rattle.stream.proofs.Laws.Stream.{is-end, is-cut, is-record, lies, length-fields}
 use Rattle.shapes.specs.declared.Fault.{Fault}
-use Rattle.shapes.specs.declared.Head.{Head}
 use Rattle.records.specs.declared.Filled.{Filled}
 use Rattle.records.specs.declared.Step.{Step}
 use Rattle.records.specs.declared.Step.the-variants.{Go, Stop}

@@ -1,12 +1,12 @@
 -- Room: more of it changes no answer but 9, and with room enough there is no 9.
 -- Assumes nothing.
-use mathlib.Core.Path.{_≡_, refl, sym, ap, _∙_}
-use mathlib.Core.Bool.{Bool, true, false, cond, _&&_, _||_}
+use mathlib.Core.Path.{_≡_, refl, ap}
+use mathlib.Core.Bool.{Bool, true, false, cond, _&&_}
 use mathlib.Core.Logic.{_⊎_, inl, inr}
 use mathlib.Core.List.{List, [], _∷_, _++_}
-use Prim.Native.Nat.{ℕ, zero, suc, _+_, _≤_, max}
+use Prim.Native.Nat.{ℕ, _+_, _≤_}
 use native.Mathlib.Omega.{arith}
-use lib.Dec.{eqb, leb, ltb}
+use lib.Dec.{ltb}
 use lib.ListN.{length}
 use borrow.Author.Tests.{le-leb, leb-true}
 use Rattle.laws.proofs.Told.{no, and-told}
@@ -25,8 +25,7 @@ use Rattle.shapes.specs.declared.Shape.{Shape}
 use Rattle.shapes.specs.declared.Shape.the-variants as says
 use Rattle.shapes.specs.Shapes.{needed, adds, spaced, opaqueIf, wholeShape, shapeOf, seenIn, spelled, shapeIn}
 use Rattle.records.specs.Table.{Table, Room, fits, Deed, passes, pends, puts, refuses}
-use Rattle.records.specs.Fill.{lastForm, isNamed, isStruct}
-use Rattle.records.specs.Records.{deedOn, Outcome, go, stop, pendingAfter, after, stepOf, Ran, whole, bad, onward, run}
+use Rattle.records.specs.Records.{deedOn, Outcome, go, stop, after, stepOf, bad, onward, run}
 use Rattle.records.specs.Promises.{Larger}
 
 pub fits-told : (room : Room) (es : List Entry) → fits room es ≡ true

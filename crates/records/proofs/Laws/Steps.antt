@@ -3,10 +3,9 @@
 use mathlib.Core.Path.{_≡_, refl, sym, ap, _∙_}
 use mathlib.Core.Bool.{Bool, true, false, cond, _||_}
 use mathlib.Core.List.{List, []}
-use Prim.Native.Nat.{ℕ, _≤_, _<_}
-use native.Mathlib.Omega.{arith}
-use lib.Dec.{T, eqb, ltb}
-use lib.ListN.{length, getD}
+use Prim.Native.Nat.{ℕ, _≤_}
+use lib.Dec.{eqb, ltb}
+use lib.ListN.{length}
 use Rattle.laws.proofs.Told.{no, T-of}
 use Rattle.kinds.specs.Kinds.{struct}
 use Rattle.table.specs.Buffers.{lowBytes}
@@ -15,7 +14,6 @@ use Rattle.table.proofs.Laws.Buffers.{lowBytes-of-bytes}
 use Rattle.utf8.specs.Utf8.{isUtf8}
 use Rattle.utf8.proofs.Laws.Utf8.{bytes-of-pays}
 use Rattle.shapes.specs.declared.Fault.{Fault}
-use Rattle.shapes.specs.declared.Fault.the-variants.{AlreadyFilled}
 use Rattle.shapes.specs.declared.Shape.{Shape}
 use Rattle.shapes.specs.declared.Shape.the-variants as says
 use Rattle.shapes.specs.Shapes.{shapeIn}
@@ -26,7 +24,7 @@ use Rattle.records.specs.declared.Deed.{Deed}
 use Rattle.records.specs.declared.Deed.the-variants.{Pass, Pend, Put, Refuse}
 use Rattle.records.specs.Table.{Table, Room, passes, pends, puts, refuses}
 use Rattle.records.specs.Records.{deedOn, after, stepOf}
-use Rattle.records.specs.Values.{filledOf, behind, inLast, deedBy}
+use Rattle.records.specs.Values.{filledOf, deedBy}
 use Rattle.records.specs.Putting.{Fits, Puts}
 use Rattle.records.proofs.Laws.Deeds.{FitsDeed, deed-fits, Does, deed-does}
 use Rattle.records.proofs.Laws.Turn.{pending-is}

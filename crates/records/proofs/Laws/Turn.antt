@@ -3,14 +3,14 @@
 use mathlib.Core.Path.{_≡_, refl, sym, ap, _∙_}
 use mathlib.Core.Bool.{true, false}
 use mathlib.Core.List.{List, [], _∷_, _++_, append-assoc}
-use Prim.Native.Nat.{ℕ, _+_, _-_, _*_, _≤_, _<_}
+use Prim.Native.Nat.{ℕ, _+_, _-_, _*_, _≤_}
 use native.Mathlib.Omega.{arith}
 use lib.Dec.{ltb}
 use lib.ListN.{length, take, drop, length-append}
 use borrow.Author.Tests.{lt-ltb, le-ltb}
 use Rattle.table.specs.declared.row.Row.{Row}
-use Rattle.table.specs.Buffers.{over, lowBytes}
-use Rattle.table.specs.Entries.{Name, Entry}
+use Rattle.table.specs.Buffers.{over}
+use Rattle.table.specs.Entries.{Entry}
 use Rattle.table.specs.Rows.{rowWords, wordsOf, rowOf, rowsOf, refsOf, namesOf}
 use Rattle.table.proofs.Laws.Buffers.{length-over, over-rest, over-again}
 use Rattle.table.proofs.Laws.Rows.{rowsOf-snoc, length-rowsOf}
@@ -20,8 +20,8 @@ use Rattle.records.specs.declared.Filled.{Filled}
 use Rattle.records.specs.declared.Put.{Put}
 use Rattle.records.specs.declared.Step.{Step}
 use Rattle.records.specs.declared.Step.the-variants.{Go, Stop}
-use Rattle.records.specs.Table.{Table, Room, fits, passes, pends, puts, refuses, nameIf}
-use Rattle.records.specs.Records.{Outcome, pendingAfter, after}
+use Rattle.records.specs.Table.{Table, Room, fits, passes, pends, puts, refuses}
+use Rattle.records.specs.Records.{Outcome, after}
 use Rattle.records.specs.Values.{filledOf, endOf, hasRoom, rowFor, grown}
 use Rattle.records.specs.Held.{Buffers, roomIn, Holds, After}
 use Rattle.records.specs.Putting.{Puts}

@@ -1,19 +1,17 @@
 -- Laws of specs/Values.antt: what the code computes by value for an entry that is put.
 -- Assumes nothing.
-use mathlib.Core.Path.{_≡_, refl, sym, ap, _∙_}
-use mathlib.Core.Bool.{Bool, true, false, cond, _&&_}
-use mathlib.Core.List.{List, [], _∷_, _++_}
-use Prim.Native.Nat.{ℕ, zero, suc, _+_, _-_, _*_, _≤_, _<_}
+use mathlib.Core.Path.{_≡_, refl}
+use mathlib.Core.Bool.{Bool, true, false, cond}
+use Prim.Native.Nat.{ℕ, zero, suc, _+_, _-_, _≤_, _<_}
 use native.Mathlib.Omega.{arith}
-use lib.Dec.{leb, ltb}
-use lib.ListN.{length}
+use lib.Dec.{leb}
 use borrow.Author.Tests.{le-leb, lt-leb, lt-ltb, le-ltb, ltb-true, leb-true}
 use Rattle.laws.proofs.Told.{and-told}
 use Rattle.table.specs.declared.row.Row.{Row}
 use Rattle.table.specs.Rows.{placeOf}
 use Rattle.records.specs.declared.Filled.{Filled}
 use Rattle.records.specs.declared.Put.{Put}
-use Rattle.records.specs.Values.{endOf, hasRoom, rowFor, grown}
+use Rattle.records.specs.Values.{endOf, hasRoom, rowFor}
 
 pub placeOf-some : (n p : ℕ) → (n ≡ 0 → ⊥) → p ≡ placeOf n p
 placeOf-some zero p h = absurd (h refl)

@@ -3,7 +3,7 @@
 use mathlib.Core.Path.{_≡_, refl, sym, ap, _∙_}
 use mathlib.Core.Bool.{Bool, true, false, not, cond, _&&_}
 use mathlib.Core.List.{List, [], _∷_}
-use Prim.Native.Nat.{ℕ, zero, suc, _-_}
+use Prim.Native.Nat.{ℕ, suc, _-_}
 use native.Mathlib.Omega.{arith}
 use lib.Dec.{eqb}
 use lib.ListN.{getD}
@@ -19,7 +19,7 @@ use Rattle.walk.specs.declared.Fault.{Fault}
 use Rattle.walk.specs.declared.Fault.the-variants.{OutOfRange, Width, Referent}
 use Rattle.walk.specs.declared.Resolution.{Resolution}
 use Rattle.walk.specs.declared.Resolution.the-variants.{Accepted, Refused, Cycle}
-use Rattle.walk.specs.Answers.{Paper, accepted, refused, cycle, numberIn, detailIn, paperOf}
+use Rattle.walk.specs.Answers.{Paper, accepted, refused, cycle, paperOf}
 
 -- the places in the order of their numbers, and the case that the paper's answer came from
 places : List Place

@@ -1,20 +1,19 @@
 -- The checker says yes exactly if the rows are well formed and the ranks pass in the words of the theory (ranks/specs/Table).
 -- Assumes nothing.
-use mathlib.Core.Path.{_≡_, refl, sym, ap, _∙_}
+use mathlib.Core.Path.{_≡_, refl}
 use mathlib.Core.Bool.{Bool, true, false, not, cond, _&&_, _||_}
 use mathlib.Core.List.{List, [], _∷_, List·Memᴰ, List·Memᴰ·head, List·Memᴰ·tail}
-use mathlib.Core.Logic.{_⊎_, inl, inr}
 use Prim.Native.Nat.{ℕ, zero, suc, _+_, _≤_, _<_}
 use native.Mathlib.Omega.{arith}
 use native.Mathlib.Decide.{ℕ-discrete}
 use lib.Dec.{eqb, leb, ltb}
 use lib.ListN.{length, getD}
 use borrow.Author.Tests.{leb-true, le-leb, ltb-true, lt-ltb}
-use Rattle.laws.proofs.Bools.{and-true}
+use Rattle.laws.proofs.Conjunctions.{and-true}
 use Rattle.kinds.specs.Kinds.{integer}
 use Rattle.units.specs.Limits.{isIntegerWidth}
 use Rattle.table.specs.Rows.{entryRoom, rowAt}
-use Rattle.ranks.specs.Table.{Verdict, kept, broken, Table, Refers, Lawful, Passes}
+use Rattle.ranks.specs.Table.{kept, broken, Refers, Lawful, Passes}
 use Rattle.rules.specs.Places.{placeAt, suits}
 use Rattle.rules.specs.Counts.{counted}
 use Rattle.rules.specs.Lawful.{maxEntries, refsAt, badWidth, numberOf, firstBad, ruleAt, tableOf}

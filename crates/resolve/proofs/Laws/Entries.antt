@@ -1,11 +1,10 @@
 -- Buffers that hold the flat form of well-formed entries are well formed, and each row reads as its entry.
 -- Assumes nothing.
 use mathlib.Core.Path.{_≡_, refl, sym, ap, _∙_}
-use mathlib.Core.Bool.{Bool, true, _&&_}
+use mathlib.Core.Bool.{true, _&&_}
 use mathlib.Core.List.{List, [], _∷_, _++_, append-assoc}
-use Prim.Native.Nat.{ℕ, zero, suc, _+_, _*_, _-_, _/_, _≤_, _<_}
+use Prim.Native.Nat.{ℕ, zero, suc, _+_, _*_, _-_, _≤_}
 use native.Mathlib.Omega.{arith}
-use lib.Dec.{eqb, leb}
 use lib.ListN.{length, getD, take, drop, length-append, length-drop}
 use lib.Seq.{drop-drop, getD-drop, drop-append-seam, take-append-seam}
 use borrow.Author.Tests.{eq-eqb, le-leb}
@@ -14,10 +13,10 @@ use Rattle.table.specs.Entries.{Entry, Name, unnamed, called, bytesOf, namedOf}
 use Rattle.table.specs.Rows.{rowWords, entryRoom, rowAt, wordsOf, rowOf, placeOf, rowsFrom, rowsOf, refsOf, namesOf}
 use Rattle.table.proofs.Laws.Rows.{rowAt-is, length-rowsOf}
 use Rattle.rules.specs.Lawful.{maxEntries, refsAt}
-use Rattle.checker.specs.Form.{formed, placed}
+use Rattle.formed.specs.Form.{formed, placed}
 use Rattle.checker.specs.Checked.{rowOk}
 use Rattle.resolve.specs.Formed.{formedFrom, wellFormed}
-use Rattle.resolve.specs.Entries.{Begins, formedEntry, EachFormed, Holds, nameBy, entryAt, entriesFrom}
+use Rattle.resolve.specs.Entries.{Begins, EachFormed, Holds, nameBy, entryAt, entriesFrom}
 
 -- a buffer that begins, behind fill elements, with a stretch and more
 module _ (fill : ℕ) (l x more : List ℕ) (b : Begins (drop fill l) (x ++ more)) where

@@ -2,25 +2,25 @@
 -- Assumes nothing.
 use mathlib.Core.Path.{_≡_, refl, sym, ap, _∙_}
 use mathlib.Core.Bool.{Bool, true, false, cond, _&&_, _||_}
-use mathlib.Core.List.{List, [], _∷_, _++_, append-assoc}
-use Prim.Native.Nat.{ℕ, zero, suc, _+_, _*_, _-_, _/_, _≤_, _<_}
+use mathlib.Core.List.{List, _∷_, _++_, append-assoc}
+use Prim.Native.Nat.{ℕ, zero, suc, _+_, _*_, _-_, _≤_, _<_}
 use native.Mathlib.Omega.{arith}
 use native.Mathlib.Numerals.{add-one}
 use lib.Dec.{eqb, leb}
 use lib.ListN.{length, getD, take, drop, length-drop, take-append-drop}
 use lib.Seq.{drop-cons, drop-drop, length-take-le}
 use borrow.Author.Tests.{eqb-true, leb-true}
-use Rattle.laws.proofs.Bools.{and-true}
+use Rattle.laws.proofs.Conjunctions.{and-true}
 use Rattle.kinds.specs.Kinds.{struct, opaquePointer}
 use Rattle.table.specs.declared.row.Row.{Row}
-use Rattle.table.specs.Entries.{Name, unnamed, called, Entry, bytesOf, namedOf}
+use Rattle.table.specs.Entries.{Entry, bytesOf, namedOf}
 use Rattle.table.specs.Rows.{rowWords, entryRoom, rowAt, wordsOf, rowOf, placeOf, rowsFrom, refsOf, namesOf}
 use Rattle.table.proofs.Laws.Rows.{rowAt-is}
 use Rattle.rules.specs.Lawful.{maxEntries, refsAt}
-use Rattle.checker.specs.Form.{formed, placed, numberForm, flagForm, countForm, namedForm}
+use Rattle.formed.specs.Form.{formed, placed, numberForm, flagForm, countForm, namedForm}
 use Rattle.checker.specs.Checked.{rowOk}
 use Rattle.resolve.specs.Formed.{formedFrom, wellFormed}
-use Rattle.resolve.specs.Entries.{Begins, EachFormed, Holds, nameBy, entryAt, entriesFrom}
+use Rattle.resolve.specs.Entries.{Begins, Holds, nameBy, entryAt, entriesFrom}
 use Rattle.resolve.proofs.Laws.Entries.{Held, stretch-place, formed-places}
 
 row-words : (l : List ℕ) (a : ℕ) → a + 8 ≤ length l

@@ -1,8 +1,8 @@
 -- Laws of specs/Specs.antt: a spec or the rest of one by its first bytes, and the arm `_` of each choice by a letter.
 -- Assumes nothing.
-use mathlib.Core.Path.{_≡_, refl, sym, ap, _∙_}
+use mathlib.Core.Path.{_≡_, refl, sym, ap}
 use mathlib.Core.List.{List, [], _∷_}
-use Prim.Native.Nat.{ℕ, suc, _+_, _-_, _≤_, _<_, zero-le}
+use Prim.Native.Nat.{ℕ, _-_, _≤_, _<_}
 use native.Mathlib.Omega.{arith}
 use lib.ListN.{length, getD, take, drop}
 use borrow.Author.Tests.{eq-eqb, ne-eqb}
@@ -13,7 +13,6 @@ use Rattle.layout.specs.Numbers.{noNumbers}
 use Rattle.fields.specs.declared.numbers.Fault.the-variants.{EmptySpec, UnknownSpec, BadSpecParse}
 use Rattle.fields.specs.Parts.{colon}
 use Rattle.fields.specs.Fields.{alignIn}
-use Rattle.spec.specs.declared.spec.Read.{Read}
 use Rattle.spec.specs.declared.spec.Spec.the-variants.{Refused}
 use Rattle.spec.specs.Edition.{manglingLetter}
 use Rattle.spec.specs.Lists.{refused, numbersIn}

@@ -3,20 +3,18 @@
 use mathlib.Core.Path.{_≡_, refl, sym, ap, _∙_}
 use mathlib.Core.Bool.{Bool, true, false, cond}
 use mathlib.Core.List.{List, [], _∷_, _++_, append-nil, append-assoc}
-use Prim.Native.Nat.{ℕ, zero, suc, _+_, _-_, _≤_, _<_}
+use Prim.Native.Nat.{ℕ, _-_, _≤_}
 use native.Mathlib.Omega.{arith}
 use lib.Dec.{T, eqb}
 use lib.ListN.{length, getD, take, drop}
 use borrow.Author.Tests.{ne-eqb}
 use Rattle.laws.proofs.Told.{no}
-use Rattle.laws.proofs.Bools.{T-and}
-use Rattle.kinds.specs.declared.code.TypeCode.{TypeCode}
 use Rattle.kinds.specs.Codes.{Numbered, codes, codeIn, typeCode}
 use Rattle.stream.specs.declared.Found.{Found}
 use Rattle.stream.specs.declared.Found.the-variants.{End, Cut, Record}
 use Rattle.stream.specs.declared.Stated.{Stated}
 use Rattle.stream.specs.declared.Stated.the-variants.{Nothing, Count, Faulty}
-use Rattle.stream.specs.Stream.{Stream, done, cut, rec, stream, recordAt}
+use Rattle.stream.specs.Stream.{stream, recordAt}
 use Rattle.stream.specs.Count.{isNumEntry, numEntryIn, numEntries, statedBy}
 use Rattle.stream.proofs.Laws.Stream.{is-end, is-cut, is-record, lies}
 

@@ -2,7 +2,6 @@
 -- Assumes nothing.
 use mathlib.Core.Path.{_≡_, refl, sym, _∙_}
 use Prim.Native.Nat.{_≤_, _-_}
-use native.Mathlib.Omega.{arith}
 use lib.ListN.{length, drop}
 use borrow.Author.Needs.{needs}
 use Rattle.stream.specs.declared.Found.the-variants.{End, Cut, Record}

@@ -5,18 +5,16 @@ use mathlib.Core.Path.{_≡_, refl, sym, ap, _∙_}
 use mathlib.Core.Bool.{Bool, true, false, cond, _&&_}
 use mathlib.Core.List.{List, [], _∷_}
 use Prim.Native.Nat.{ℕ, zero, suc, _+_, _-_, _≤_, _<_}
-use native.Mathlib.Numerals.{add-one}
 use native.Mathlib.Omega.{arith}
 use lib.Dec.{T, eqb, leb, lit≤}
-use lib.ListN.{length, getD, drop, replicate}
-use lib.Seq.{drop-cons, drop-length}
+use lib.ListN.{getD, replicate}
 use borrow.Author.Tests.{eqb-true, leb-true, leb-false, ne-eqb}
 use Rattle.laws.specs.Numbers.{within}
 use Rattle.laws.proofs.Bools.{T-true, T-and}
-use Rattle.laws.proofs.Numbers.{within-inside, within-below, within-above}
+use Rattle.laws.proofs.Numbers.{within-inside, within-above}
 use Rattle.laws.proofs.Runs.{holdsFrom, holds-of-run}
 use Rattle.utf8.specs.declared.Owed.{Owed}
-use Rattle.utf8.specs.Utf8.{Range, range, follower, nowhere, Sequence, sequences, inRange, restOf, pays, isUtf8, owing}
+use Rattle.utf8.specs.Utf8.{Range, range, follower, nowhere, Sequence, sequences, inRange, restOf, pays, owing}
 
 -- lists of ranges compared, so that antt can compute a whole run of first bytes
 

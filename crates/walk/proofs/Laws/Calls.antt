@@ -23,7 +23,7 @@ use Rattle.walk.specs.declared.Fault.the-variants.{OutOfRange}
 use Rattle.walk.specs.declared.Walked.{Walked}
 use Rattle.walk.proofs.Walked.{the-type}
 use Rattle.walk.specs.declared.Walked.the-variants.{Ranked, Ring, Refused}
-use Rattle.walk.specs.Marks.{Clipped, plainly, Path, Ready, RankKept, Kept, RingShown, Shows, Finished, EntryWalked, StretchWalked}
+use Rattle.walk.specs.Marks.{Clipped, plainly, Path, Ready, RankKept, RingShown, Shows, Finished, EntryWalked, StretchWalked}
 use Rattle.walk.proofs.Laws.Fits.{rank-low}
 use Rattle.walk.proofs.Laws.Judge.{refsAt-clipped}
 use Rattle.walk.proofs.Laws.Marks.{Path-begun, Path-kept}

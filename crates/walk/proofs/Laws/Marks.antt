@@ -1,16 +1,14 @@
 -- Laws of the marks (specs/Marks.antt): how a store reads in the words of ranks/specs/Walk, and what it does to the path.
 -- Assumes nothing.
 use mathlib.Core.Path.{_≡_, refl, sym, ap, _∙_}
-use mathlib.Core.Bool.{Bool, true, false, cond}
-use mathlib.Core.List.{List, [], _∷_, _++_, map}
+use mathlib.Core.List.{List, [], _∷_, _++_}
 use Prim.Native.Nat.{ℕ, zero, suc, _+_, _-_, _≤_, _<_}
 use native.Mathlib.Omega.{arith}
 use native.Mathlib.Decide.{ℕ-discrete}
-use lib.Dec.{leb}
 use lib.ListN.{length, getD, set, drop, replicate, length-append, List·getD-append, List·getD-map}
 use lib.Seq.{getD-set-same, getD-set-other, getD-at}
 use borrow.Author.Tests.{eq-eqb, ne-eqb, le-leb, lt-leb}
-use Rattle.ranks.specs.Walk.{isNew, unstarted, from}
+use Rattle.ranks.specs.Walk.{unstarted, from}
 use Rattle.ranks.proofs.Marks.{unstarted-set}
 use Rattle.rules.specs.Lawful.{maxEntries}
 use Rattle.walk.specs.Marks.{finished, plain, plainly, Path, RankKept}
@@ -38,27 +36,6 @@ set-plainly (m ∷ ms) (suc e) v w h = ap (λ (l : List ℕ). plain m ∷ l) (se
 pub plain-new : plain 0 ≡ 0
 unfolding plain
 plain-new = refl
-
-plain-some : (m : ℕ) → 0 < m → 0 < plain m
-unfolding plain
-plain-some m h = let n : m ≡ 0 → ⊥ = λ q. omega arith in rw (ne-eqb m 0 n) (go (leb m maxEntries))
-  where
-    go : (b : Bool) → 0 < cond b 1 (m - finished + 2)
-    go true = omega arith
-    go false = omega arith
-
-isNew-some : (m : ℕ) → 0 < m → isNew m ≡ 0
-isNew-some zero h = absurd (omega arith)
-isNew-some (suc m) h = refl
-
-isNew-plain : (m : ℕ) → isNew (plain m) ≡ isNew m
-isNew-plain zero = rw plain-new
-isNew-plain (suc m) = isNew-some (plain (suc m)) (plain-some (suc m) (omega arith))
-
-pub unstarted-plainly : (ms : List ℕ) → unstarted (plainly ms) ≡ unstarted ms
-unfolding unstarted
-unstarted-plainly [] = refl
-unstarted-plainly (m ∷ ms) = rw (isNew-plain m, unstarted-plainly ms)
 
 pub unstarted-begun : (ms : List ℕ) (e d : ℕ) → e < length ms → getD ms e 0 ≡ 0 → unstarted (set ms e (d + 1)) + 1 ≡ unstarted ms
 unstarted-begun ms e d lt new =

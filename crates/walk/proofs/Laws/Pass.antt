@@ -1,34 +1,27 @@
 -- The whole pass: what is left from entry i upward gives what the pass gives; marks become ranks; the witness behind them is 0.
 -- Assumes nothing.
 use mathlib.Core.Path.{_≡_, refl, sym, ap, _∙_}
-use mathlib.Core.Logic.{_⊎_, inl, inr}
-use mathlib.Core.Bool.{true, false}
-use mathlib.Core.List.{List, [], _∷_, _++_, map, append-nil, append-assoc}
-use Prim.Native.Nat.{ℕ, zero, suc, _+_, _-_, _≤_, _<_}
+use mathlib.Core.Logic.{_⊎_}
+use mathlib.Core.List.{List, [], map, append-nil}
+use Prim.Native.Nat.{ℕ, suc, _+_, _-_, _≤_, _<_}
 use native.Mathlib.Omega.{arith}
-use lib.ListN.{length, getD, set, take, drop, length-map, length-append, length-replicate, length-drop, replicate-append-replicate}
+use lib.ListN.{length, getD, set, take, drop, length-map}
 use lib.ListN.{drop-of-length-le, List·getD-map}
 use lib.Seq.{take-all, length-take-le, getD-drop, getD-append-add}
 use denote.Enum.Declared.{tagOf}
 use Rattle.table.specs.declared.Rank.{Rank}
-use Rattle.table.specs.Buffers.{zeros, padded, over}
+use Rattle.table.specs.Buffers.{zeros, over}
 use Rattle.table.proofs.Laws.Buffers.{Laid, Laid-more, Laid-done}
 use Rattle.ranks.specs.Walk as ranks
-use Rattle.ranks.specs.Walk.{Out, out, andThen, entry, upward, resolve, unstarted, ranksOf}
+use Rattle.ranks.specs.Walk.{andThen, entry, upward, resolve}
 use Rattle.ranks.proofs.Marks.{unstarted-le-length}
 use Rattle.rules.specs.Lawful.{maxEntries, tableOf}
-use Rattle.walk.specs.declared.Fault.{Fault}
-use Rattle.walk.specs.declared.Resolution.{Resolution}
-use Rattle.walk.specs.declared.Resolution.the-variants.{Accepted, Refused, Cycle}
 use Rattle.walk.specs.declared.Walked.{Walked}
 use Rattle.walk.proofs.Walked.{the-type}
 use Rattle.walk.specs.declared.Walked.the-variants as walked
-use Rattle.walk.specs.Answers.{numberIn, detailIn, cycle, paperOf, paperIn, accepted, refused}
-use Rattle.walk.specs.Resolve.{witnessIn, Resolves}
-use Rattle.walk.specs.Marks.{finished, plain, plainly, ranked, Path, Ready, RankKept, Kept, RingShown, Shows, EntryWalked}
-use Rattle.walk.proofs.Laws.Marks.{plain-begun, plain-ranked, plain-new, Path-none, Path-kept, plainly-zeros}
+use Rattle.walk.specs.Marks.{finished, plainly, ranked, Path, Ready, RankKept, Shows, EntryWalked}
+use Rattle.walk.proofs.Laws.Marks.{Path-none, Path-kept, plainly-zeros}
 use Rattle.walk.proofs.Laws.Ready.{ready-first, ready-again}
-use Rattle.walk.proofs.Laws.Rings.{ring-whole}
 use Rattle.walk.proofs.Laws.Walk.{shows-stop, shows-rank}
 
 -- the entries below i are resolved, and the marks are ms

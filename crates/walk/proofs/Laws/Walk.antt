@@ -6,13 +6,13 @@ use mathlib.Core.Bool.{true, false}
 use mathlib.Core.List.{List, [], _∷_, _++_}
 use Prim.Native.Nat.{ℕ, zero, suc, _+_, _-_, _≤_, _<_, max}
 use native.Mathlib.Omega.{arith}
-use lib.ListN.{length, getD, set, take, drop, length-set}
+use lib.ListN.{length, getD, set, take, drop}
 use borrow.Author.Tests.{lt-ltb, le-ltb}
 use denote.Enum.Declared.{tagOf}
 use Rattle.laws.proofs.Stretches.{stretch-cons}
 use Rattle.table.specs.Buffers.{zeros}
 use Rattle.table.specs.declared.Rank.{Rank}
-use Rattle.ranks.specs.Table.{Table, Verdict, kept, broken, outOfRange}
+use Rattle.ranks.specs.Table.{Table, Verdict, kept, broken}
 use Rattle.ranks.specs.Walk as ranks
 use Rattle.ranks.specs.Walk.{Out, out, from, onRank, andThen, byMark, judged, finish, stretch, entry, unstarted}
 use Rattle.rules.specs.Lawful.{maxEntries}

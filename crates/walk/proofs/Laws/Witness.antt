@@ -1,18 +1,17 @@
 -- The witness at the end (specs/Resolve.antt), by the answer; and behind the entries it is 0.
 -- Assumes nothing.
 use mathlib.Core.Path.{_≡_, refl, sym, ap, _∙_}
-use mathlib.Core.Bool.{Bool, true, false, cond}
+use mathlib.Core.Bool.{Bool, true, false}
 use mathlib.Core.List.{List, [], _∷_, _++_, map, append-nil, append-assoc}
-use Prim.Native.Nat.{ℕ, zero, suc, _+_, _-_, _≤_, _<_}
+use Prim.Native.Nat.{ℕ, zero, suc, _+_, _-_, _≤_}
 use native.Mathlib.Omega.{arith}
 use lib.Dec.{ltb, leb}
 use borrow.Author.Tests.{ltb-true, ltb-false, leb-true, leb-false}
-use lib.ListN.{length, getD, take, drop, length-map, length-append, length-replicate, replicate-append-replicate}
+use lib.ListN.{length, take, drop, length-map, length-append, length-replicate, replicate-append-replicate}
 use denote.Enum.Declared.{tagOf}
-use Rattle.table.specs.declared.Rank.{Rank}
 use Rattle.table.specs.Buffers.{zeros, padded}
 use Rattle.ranks.specs.Walk as ranks
-use Rattle.ranks.specs.Walk.{Out, out, resolve, ranksOf}
+use Rattle.ranks.specs.Walk.{resolve, ranksOf}
 use Rattle.rules.specs.Lawful.{maxEntries, tableOf}
 use Rattle.walk.specs.declared.Fault.{Fault}
 use Rattle.walk.specs.declared.Resolution.{Resolution}
@@ -20,9 +19,9 @@ use Rattle.walk.specs.declared.Resolution.the-variants.{Accepted, Refuse
 use Rattle.walk.specs.declared.Walked.{Walked}
 use Rattle.walk.proofs.Walked.{the-type}
 use Rattle.walk.specs.declared.Walked.the-variants as walked
-use Rattle.walk.specs.Answers.{numberIn, detailIn, cycle, paperOf, paperIn, refused}
+use Rattle.walk.specs.Answers.{numberIn, detailIn}
 use Rattle.walk.specs.Resolve.{entriesOf, witnessIn, Resolves}
-use Rattle.walk.specs.Marks.{finished, plain, plainly, ranked, RingShown, Shows}
+use Rattle.walk.specs.Marks.{plain, plainly, ranked, RingShown, Shows}
 use Rattle.walk.proofs.Laws.Marks.{plain-new, plain-begun, plain-ranked}
 use Rattle.walk.proofs.Laws.Rings.{ring-whole}
 

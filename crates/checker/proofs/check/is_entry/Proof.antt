@@ -2,7 +2,7 @@
 -- Assumes nothing.
 use borrow.Author.Needs.{needs}
 use borrow.Author.Tests.{not-true, not-false}
-use mathlib.Core.Path.{_≡_, sym, _∙_}
+use mathlib.Core.Path.{sym, _∙_}
 use lib.ListN.{length}
 use Rattle.checker.proofs.Laws.Checked.{rowOk-fits, entryOk-row, entryOk-lawful}
 use Rattle.checker.proofs.check.is_entry.Statement.{statement}

@@ -9,75 +9,6 @@ use Rattle.datalayout.proofs.Laws.Apply.{applied-of-case}
 use Rattle.datalayout.proofs.apply.apply.Statement.{statement}
 use Rattle.datalayout.proofs.apply.apply.Tie as tie
 
-enum-known-said : tie.Need-enum-known-said
-enum-known-said c = search needs
-
-with-endianness-requires : tie.Need-with-endianness-requires
-with-endianness-requires c κs = search needs
-
-done-requires : tie.Need-done-requires
-done-requires c κs = search needs
-
-enum-known-said-2 : tie.Need-enum-known-said-2
-enum-known-said-2 c = search needs
-
-with-stack-requires : tie.Need-with-stack-requires
-with-stack-requires c κs = search needs
-
-done-requires-2 : tie.Need-done-requires-2
-done-requires-2 c κs = search needs
-
-enum-known-said-3 : tie.Need-enum-known-said-3
-enum-known-said-3 c = search needs
-
-with-space-requires : tie.Need-with-space-requires
-with-space-requires c κs = search needs
-
-done-requires-3 : tie.Need-done-requires-3
-done-requires-3 c κs = search needs
-
-enum-known-said-4 : tie.Need-enum-known-said-4
-enum-known-said-4 c = search needs
-
-apply-type-requires : tie.Need-apply-type-requires
-apply-type-requires c κs = search needs
-
-enum-known-said-5 : tie.Need-enum-known-said-5
-enum-known-said-5 c = search needs
-
-apply-pointer-requires : tie.Need-apply-pointer-requires
-apply-pointer-requires c κs = search needs
-
-enum-known-said-6 : tie.Need-enum-known-said-6
-enum-known-said-6 c = search needs
-
-with-function-pointer-requires : tie.Need-with-function-pointer-requires
-with-function-pointer-requires c κs = search needs
-
-done-requires-4 : tie.Need-done-requires-4
-done-requires-4 c κs = search needs
-
-enum-known-said-7 : tie.Need-enum-known-said-7
-enum-known-said-7 c = search needs
-
-with-mangling-requires : tie.Need-with-mangling-requires
-with-mangling-requires c κs = search needs
-
-done-requires-5 : tie.Need-done-requires-5
-done-requires-5 c κs = search needs
-
-enum-known-said-8 : tie.Need-enum-known-said-8
-enum-known-said-8 c = search needs
-
-with-numbers-requires : tie.Need-with-numbers-requires
-with-numbers-requires c κs = search needs
-
-done-requires-6 : tie.Need-done-requires-6
-done-requires-6 c κs = search needs
-
-enum-known-said-9 : tie.Need-enum-known-said-9
-enum-known-said-9 c = search needs
-
 returns : tie.Need-returns
 returns c =
     let args = c .before .before .before .before .before .before .args in
@@ -137,29 +68,29 @@ pub apply-spec : {M : Type 1} → statement M
 apply-spec =
     tie.close
     (tie.spec
-    enum-known-said
-    with-endianness-requires
-    done-requires
-    enum-known-said-2
-    with-stack-requires
-    done-requires-2
-    enum-known-said-3
-    with-space-requires
-    done-requires-3
-    enum-known-said-4
-    apply-type-requires
-    enum-known-said-5
-    apply-pointer-requires
-    enum-known-said-6
-    with-function-pointer-requires
-    done-requires-4
-    enum-known-said-7
-    with-mangling-requires
-    done-requires-5
-    enum-known-said-8
-    with-numbers-requires
-    done-requires-6
-    enum-known-said-9
+    (λ c. search needs)
+    (λ c κs. search needs)
+    (λ c κs. search needs)
+    (λ c. search needs)
+    (λ c κs. search needs)
+    (λ c κs. search needs)
+    (λ c. search needs)
+    (λ c κs. search needs)
+    (λ c κs. search needs)
+    (λ c. search needs)
+    (λ c κs. search needs)
+    (λ c. search needs)
+    (λ c κs. search needs)
+    (λ c. search needs)
+    (λ c κs. search needs)
+    (λ c κs. search needs)
+    (λ c. search needs)
+    (λ c κs. search needs)
+    (λ c κs. search needs)
+    (λ c. search needs)
+    (λ c κs. search needs)
+    (λ c κs. search needs)
+    (λ c. search needs)
     returns
     returns-2
     returns-3

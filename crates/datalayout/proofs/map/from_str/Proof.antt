@@ -1,6 +1,5 @@
 -- `datalayout::map::from_str` meets its contract, by whether a byte is not ASCII.
 -- Assumes nothing.
-use mathlib.Core.Path.{_≡_, _∙_}
 use lib.ListN.{length}
 use borrow.Author.Tests.{lt-ltb, le-ltb}
 use borrow.Author.Needs.{needs}

@@ -1,7 +1,7 @@
 -- `datalayout::map::map_specs` meets its contract. The invariant: from the layout that stands, what is left of the specs gives what all of
 -- them give.
 -- Assumes nothing.
-use mathlib.Core.Path.{_≡_, refl, sym, ap, _∙_}
+use mathlib.Core.Path.{_≡_, sym, ap, _∙_}
 use mathlib.Core.List.{List}
 use Prim.Native.Nat.{ℕ, _-_, _≤_}
 use native.Mathlib.Omega.{arith}
@@ -29,20 +29,8 @@ Inv-loop value layout₀ at₀ layout at = Going value layout at
 abbrev μ-loop : tie.MeasureT-loop
 μ-loop value layout₀ at₀ layout at = length value - at
 
-default-layout-requires : tie.Need-default-layout-requires Inv-loop μ-loop
-default-layout-requires c κs = search needs
-
 loop-holds : tie.Need-loop-holds Inv-loop μ-loop
 loop-holds c = record { in-value = omega arith; same = rw (c .default-layout .ensures) }
-
-part-end-requires : tie.Need-part-end-requires Inv-loop μ-loop
-part-end-requires c κs = search needs
-
-sub-read-spec : tie.Need-sub-read-spec Inv-loop μ-loop
-sub-read-spec c = search needs
-
-part-read-spec-start : tie.Need-part-read-spec-start Inv-loop μ-loop
-part-read-spec-start c = search needs
 
 part-read-spec-end : tie.Need-part-read-spec-end Inv-loop μ-loop
 part-read-spec-end c =
@@ -52,18 +40,6 @@ part-read-spec-end c =
     let here = at-loop .loop in
     let bound = endOf-bound dash s (here .at) (at-part .part-end .result) (here .inv .in-value) (at-part .part-end .ensures) in
     bound .1
-
-read-spec-requires : tie.Need-read-spec-requires Inv-loop μ-loop
-read-spec-requires c κs = search needs
-
-apply-requires : tie.Need-apply-requires Inv-loop μ-loop
-apply-requires c κs = search needs
-
-enum-known-outcome : tie.Need-enum-known-outcome Inv-loop μ-loop
-enum-known-outcome c = search needs
-
-default-layout-requires-2 : tie.Need-default-layout-requires-2 Inv-loop μ-loop
-default-layout-requires-2 c κs = search needs
 
 returns : tie.Need-returns Inv-loop μ-loop
 returns c =
@@ -78,9 +54,6 @@ returns c =
     rw (c .default-layout2 .ensures)
     (specsFrom-refused (here .layout) s (here .at) (at-part .part-end .result) (here .inv .in-value) (at-part .part-end .ensures)
     (call .result) made fault refused ∙ sym (here .inv .same))
-
-enum-told : tie.Need-enum-told Inv-loop μ-loop
-enum-told c = search needs
 
 returns-2 : tie.Need-returns-2 Inv-loop μ-loop
 returns-2 c =
@@ -123,8 +96,7 @@ loop-again c =
     let done : call .result .outcome ≡ Done = search needs in
     let made = call .ensures ∙ ap (applied (here .layout)) (c .before .before .before .before .before .read-spec .ensures) in
     record {
-      in-value =
-          omega arith;
+      in-value = omega arith;
       same =
           here .inv .same ∙ specsFrom-more (here .layout) s (here .at) (at-part .part-end .result) (here .inv .in-value)
           (at-part .part-end .ensures) (call .result) made done (c .if1 .left);
@@ -136,18 +108,18 @@ map-specs-spec =
     (tie.spec
     Inv-loop
     μ-loop
-    default-layout-requires
+    (λ c κs. search needs)
     loop-holds
-    part-end-requires
-    sub-read-spec
-    part-read-spec-start
+    (λ c κs. search needs)
+    (λ c. search needs)
+    (λ c. search needs)
     part-read-spec-end
-    read-spec-requires
-    apply-requires
-    enum-known-outcome
-    default-layout-requires-2
+    (λ c κs. search needs)
+    (λ c κs. search needs)
+    (λ c. search needs)
+    (λ c κs. search needs)
     returns
-    enum-told
+    (λ c. search needs)
     returns-2
     add-at
     loop-less

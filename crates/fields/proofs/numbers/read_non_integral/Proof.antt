@@ -1,6 +1,6 @@
 -- `fields::numbers::read_non_integral` meets its contract, by what the reader of spaces ensures and the test for 0.
 -- Assumes nothing.
-use mathlib.Core.Path.{_≡_, sym, ap, _∙_}
+use mathlib.Core.Path.{_≡_, sym, _∙_}
 use borrow.Author.Tests.{eq-eqb, ne-eqb}
 use borrow.Author.Needs.{needs}
 use Rattle.fields.specs.declared.numbers.Number.the-variants.{Is, Not}

@@ -1,11 +1,8 @@
 -- `fields::numbers::read_space` meets its contract, by what the reader of integers and the test of the limit ensure.
 -- Assumes nothing.
-use mathlib.Core.Path.{_≡_, sym, ap, _∙_}
+use mathlib.Core.Path.{_≡_, sym, _∙_}
 use borrow.Author.Needs.{needs}
 use Rattle.units.specs.declared.decimal.Decimal.the-variants.{Number, Bad}
-use Rattle.fields.specs.Fields.{integer, tested}
-use Rattle.fields.specs.declared.numbers.Fault.the-variants.{BadAddressSpace}
-use Rattle.units.specs.Limits.{isAddressSpace}
 use Rattle.fields.proofs.numbers.read_space.Statement.{statement}
 use Rattle.fields.proofs.numbers.read_space.Tie as tie
 

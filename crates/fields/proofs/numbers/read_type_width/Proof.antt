@@ -1,6 +1,6 @@
 -- `fields::numbers::read_type_width` meets its contract, by what the reader of integers and the test of the limit ensure.
 -- Assumes nothing.
-use mathlib.Core.Path.{_≡_, sym, ap, _∙_}
+use mathlib.Core.Path.{_≡_, sym, _∙_}
 use borrow.Author.Needs.{needs}
 use Rattle.units.specs.declared.decimal.Decimal.the-variants.{Number, Bad}
 use Rattle.fields.proofs.numbers.read_type_width.Statement.{statement}

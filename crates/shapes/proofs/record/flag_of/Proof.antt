@@ -1,7 +1,6 @@
 -- `shapes::record::flag_of` meets its contract. Assumes nothing.
 use native.Mathlib.Omega.{arith}
 use borrow.Author.Tests.{lt-ltb, le-ltb}
-use borrow.Author.Needs.{needs}
 use Rattle.shapes.proofs.record.flag_of.Statement.{statement}
 use Rattle.shapes.proofs.record.flag_of.Tie as tie
 

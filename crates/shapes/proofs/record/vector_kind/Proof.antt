@@ -1,7 +1,6 @@
 -- `shapes::record::vector_kind` meets its contract. Assumes nothing.
 use native.Mathlib.Omega.{arith}
 use borrow.Author.Tests.{lt-ltb, le-ltb}
-use borrow.Author.Needs.{needs}
 use Rattle.shapes.proofs.record.vector_kind.Statement.{statement}
 use Rattle.shapes.proofs.record.vector_kind.Tie as tie
 

@@ -1,7 +1,7 @@
 -- `spec::list::read_list` meets its contract. The invariant: behind the numbers that stand, what is left of the parts gives what the
 -- whole gives.
 -- Assumes nothing.
-use mathlib.Core.Path.{_≡_, refl, sym, _∙_}
+use mathlib.Core.Path.{_≡_, sym, _∙_}
 use mathlib.Core.List.{List}
 use Prim.Native.Nat.{ℕ, _-_, _≤_}
 use native.Mathlib.Omega.{arith}
@@ -12,7 +12,7 @@ use Rattle.layout.specs.declared.record.Listed.{Listed}
 use Rattle.layout.specs.Numbers.{noNumbers}
 use Rattle.fields.specs.declared.numbers.Number.the-variants.{Is, Not}
 use Rattle.fields.specs.Parts.{colon, partsOf}
-use Rattle.fields.proofs.Laws.Parts.{endOf-bound, endOf-next}
+use Rattle.fields.proofs.Laws.Parts.{endOf-bound}
 use Rattle.spec.specs.Lists.{numbersFrom}
 use Rattle.spec.proofs.Laws.Lists.{numbersFrom-full, numbersFrom-bad, numbersFrom-last, numbersFrom-more}
 use Rattle.spec.proofs.list.read_list.Statement.{statement}
@@ -28,14 +28,8 @@ Inv-loop listed body numbers₀ at₀ numbers at = Listing listed body numbers a
 abbrev μ-loop : tie.MeasureT-loop
 μ-loop listed body numbers₀ at₀ numbers at = length body - at
 
-none-requires : tie.Need-none-requires Inv-loop μ-loop
-none-requires c κs = search needs
-
 loop-holds : tie.Need-loop-holds Inv-loop μ-loop
 loop-holds c = record { in-body = omega arith; same = rw (c .none .ensures) }
-
-refused-requires : tie.Need-refused-requires Inv-loop μ-loop
-refused-requires c κs = search needs
 
 returns : tie.Need-returns Inv-loop μ-loop
 returns c =
@@ -44,15 +38,6 @@ returns c =
     let here = at-loop .loop in
     c .refused .ensures ∙ numbersFrom-full (args .listed) (here .numbers) (args .body .now) (here .at) (here .inv .in-body)
     (c .before .if1 .taken) ∙ sym (here .inv .same)
-
-part-end-requires : tie.Need-part-end-requires Inv-loop μ-loop
-part-end-requires c κs = search needs
-
-sub-read-number : tie.Need-sub-read-number Inv-loop μ-loop
-sub-read-number c = search needs
-
-part-read-number-start : tie.Need-part-read-number-start Inv-loop μ-loop
-part-read-number-start c = search needs
 
 part-read-number-end : tie.Need-part-read-number-end Inv-loop μ-loop
 part-read-number-end c =
@@ -63,21 +48,6 @@ part-read-number-end c =
     let bound = endOf-bound colon (args .body .now) (here .at) (at-part .part-end .result) (here .inv .in-body)
     (at-part .part-end .ensures) in
     omega arith
-
-read-number-requires : tie.Need-read-number-requires Inv-loop μ-loop
-read-number-requires c κs = search needs
-
-enum-known-n : tie.Need-enum-known-n Inv-loop μ-loop
-enum-known-n c = search needs
-
-push-requires : tie.Need-push-requires Inv-loop μ-loop
-push-requires c κs = search needs
-
-enum-known-fault : tie.Need-enum-known-fault Inv-loop μ-loop
-enum-known-fault c = search needs
-
-refused-requires-2 : tie.Need-refused-requires-2 Inv-loop μ-loop
-refused-requires-2 c κs = search needs
 
 returns-2 : tie.Need-returns-2 Inv-loop μ-loop
 returns-2 c =
@@ -153,19 +123,19 @@ read-list-spec =
     (tie.spec
     Inv-loop
     μ-loop
-    none-requires
+    (λ c κs. search needs)
     loop-holds
-    refused-requires
+    (λ c κs. search needs)
     returns
-    part-end-requires
-    sub-read-number
-    part-read-number-start
+    (λ c κs. search needs)
+    (λ c. search needs)
+    (λ c. search needs)
     part-read-number-end
-    read-number-requires
-    enum-known-n
-    push-requires
-    enum-known-fault
-    refused-requires-2
+    (λ c κs. search needs)
+    (λ c. search needs)
+    (λ c κs. search needs)
+    (λ c. search needs)
+    (λ c κs. search needs)
     returns-2
     returns-3
     add-at

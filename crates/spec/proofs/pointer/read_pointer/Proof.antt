@@ -6,13 +6,9 @@ use native.Mathlib.Omega.{arith}
 use borrow.Author.Needs.{needs}
 use Rattle.fields.specs.Parts.{colon}
 use Rattle.fields.proofs.Laws.Parts.{endOf-bound, endOf-next}
-use Rattle.spec.specs.Pointer.{pointerRest}
 use Rattle.spec.proofs.Laws.Pointer.{pointerIn-one, pointerIn-two, pointerIn-three, pointerIn-more}
 use Rattle.spec.proofs.pointer.read_pointer.Statement.{statement}
 use Rattle.spec.proofs.pointer.read_pointer.Tie as tie
-
-part-end-requires : tie.Need-part-end-requires
-part-end-requires c κs = search needs
 
 returns : tie.Need-returns
 returns c =
@@ -26,9 +22,6 @@ add-size-start c =
     let end = first .part-end .result in
     let bound = endOf-bound colon s 0 end zero-le (first .part-end .ensures) in
     omega arith
-
-part-end-requires-2 : tie.Need-part-end-requires-2
-part-end-requires-2 c κs = search needs
 
 returns-2 : tie.Need-returns-2
 returns-2 c =
@@ -48,15 +41,6 @@ add-abi-start c =
     let bound2 = endOf-bound colon s (end + 1) end2 start2 (second .part-end2 .ensures) in
     omega arith
 
-part-end-requires-3 : tie.Need-part-end-requires-3
-part-end-requires-3 c κs = search needs
-
-sub-read-pointer-row : tie.Need-sub-read-pointer-row
-sub-read-pointer-row c = search needs
-
-part-read-pointer-row-start : tie.Need-part-read-pointer-row-start
-part-read-pointer-row-start c = search needs
-
 part-read-pointer-row-end : tie.Need-part-read-pointer-row-end
 part-read-pointer-row-end c =
     let first = c .before .before .before .before in
@@ -64,12 +48,6 @@ part-read-pointer-row-end c =
     let end = first .part-end .result in
     let bound = endOf-bound colon s 0 end zero-le (first .part-end .ensures) in
     omega arith
-
-sub-read-pointer-row-2 : tie.Need-sub-read-pointer-row-2
-sub-read-pointer-row-2 c = search needs
-
-part-read-pointer-row-start-2 : tie.Need-part-read-pointer-row-start-2
-part-read-pointer-row-start-2 c = search needs
 
 part-read-pointer-row-end-2 : tie.Need-part-read-pointer-row-end-2
 part-read-pointer-row-end-2 c =
@@ -81,12 +59,6 @@ part-read-pointer-row-end-2 c =
     let end2 = second .part-end2 .result in
     let bound2 = endOf-bound colon s (end + 1) end2 start2 (second .part-end2 .ensures) in
     omega arith
-
-sub-read-pointer-row-3 : tie.Need-sub-read-pointer-row-3
-sub-read-pointer-row-3 c = search needs
-
-part-read-pointer-row-start-3 : tie.Need-part-read-pointer-row-start-3
-part-read-pointer-row-start-3 c = search needs
 
 part-read-pointer-row-end-3 : tie.Need-part-read-pointer-row-end-3
 part-read-pointer-row-end-3 c =
@@ -100,9 +72,6 @@ part-read-pointer-row-end-3 c =
     let start3 = endOf-next colon s (end + 1) end2 start2 (second .part-end2 .ensures) (third .before .if2 .left) in
     let bound3 = endOf-bound colon s (end2 + 1) (third .part-end3 .result) start3 (third .part-end3 .ensures) in
     bound3 .1
-
-read-pointer-row-requires : tie.Need-read-pointer-row-requires
-read-pointer-row-requires c κs = search needs
 
 returns-3 : tie.Need-returns-3
 returns-3 c =
@@ -153,23 +122,23 @@ pub read-pointer-spec : {M : Type 1} → statement M
 read-pointer-spec =
     tie.close
     (tie.spec
-    part-end-requires
+    (λ c κs. search needs)
     returns
     add-size-start
-    part-end-requires-2
+    (λ c κs. search needs)
     returns-2
     add-abi-start
-    part-end-requires-3
-    sub-read-pointer-row
-    part-read-pointer-row-start
+    (λ c κs. search needs)
+    (λ c. search needs)
+    (λ c. search needs)
     part-read-pointer-row-end
-    sub-read-pointer-row-2
-    part-read-pointer-row-start-2
+    (λ c. search needs)
+    (λ c. search needs)
     part-read-pointer-row-end-2
-    sub-read-pointer-row-3
-    part-read-pointer-row-start-3
+    (λ c. search needs)
+    (λ c. search needs)
     part-read-pointer-row-end-3
-    read-pointer-row-requires
+    (λ c κs. search needs)
     returns-3
     add-read-pointer-rest
     read-pointer-rest-requires

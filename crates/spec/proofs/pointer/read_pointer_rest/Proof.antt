@@ -5,8 +5,7 @@ use Prim.Native.Nat.{_+_}
 use native.Mathlib.Omega.{arith}
 use borrow.Author.Needs.{needs}
 use Rattle.fields.specs.Parts.{colon}
-use Rattle.fields.proofs.Laws.Parts.{endOf-bound, endOf-next}
-use Rattle.spec.specs.Pointer.{pointerIndex}
+use Rattle.fields.proofs.Laws.Parts.{endOf-bound}
 use Rattle.spec.proofs.Laws.Pointer.{pointerRest-one, pointerRest-two}
 use Rattle.spec.proofs.pointer.read_pointer_rest.Statement.{statement}
 use Rattle.spec.proofs.pointer.read_pointer_rest.Tie as tie

@@ -1,6 +1,6 @@
 -- `spec::typed::abi_within` meets its contract, by the test of the limit.
 -- Assumes nothing.
-use mathlib.Core.Path.{_≡_, sym, _∙_}
+use mathlib.Core.Path.{_≡_}
 use borrow.Author.Tests.{lt-ltb, le-ltb}
 use borrow.Author.Needs.{needs}
 use Rattle.fields.specs.declared.numbers.Aligned.the-variants.{Is, Not}

@@ -9,7 +9,7 @@ use borrow.Fn.PlainCycle.{Measures, is, falls, and}
 use mathlib.Core.Path.{_≡_, refl, _∙_}
 use Prim.Native.Nat.{ℕ, _+_, _*_, _-_, _<_}
 use native.Mathlib.Omega.{arith}
-use lib.ListN.{length, getD, set, length-set}
+use lib.ListN.{length, length-set}
 use Rattle.ranks.specs.Walk.{unstarted}
 use Rattle.rules.specs.Lawful.{tableOf}
 use Rattle.walk.specs.declared.Walked.the-variants.{Ranked, Ring}

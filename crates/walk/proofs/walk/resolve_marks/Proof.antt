@@ -1,7 +1,7 @@
 -- `walk::walk::resolve_marks` meets its contract: the ranks, the ring as it was written, or zeros.
 -- Assumes nothing.
 use borrow.Author.Needs.{needs}
-use mathlib.Core.Path.{_≡_, _∙_}
+use mathlib.Core.Path.{_≡_}
 use lib.ListN.{length}
 use Rattle.walk.specs.declared.Walked.the-variants.{Ring, Refused}
 use Rattle.walk.proofs.Laws.Witness.{resolves-accepted, resolves-cycle, resolves-refused}

@@ -1,7 +1,7 @@
 -- `walk::walk::resolve_upward` meets its contract. The invariant: what is left from i upward gives what the whole pass gives.
 -- Assumes nothing.
 use borrow.Author.Needs.{needs}
-use mathlib.Core.Path.{_≡_, refl, sym, _∙_}
+use mathlib.Core.Path.{refl, _∙_}
 use Prim.Native.Nat.{_-_}
 use native.Mathlib.Omega.{arith}
 use lib.ListN.{length}

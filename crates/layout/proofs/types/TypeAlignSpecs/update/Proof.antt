@@ -2,7 +2,7 @@
 -- Assumes nothing.
 use mathlib.Core.Path.{_≡_}
 use native.Mathlib.Omega.{arith}
-use lib.ListN.{length, take, length-take}
+use lib.ListN.{length}
 use borrow.Author.Needs.{needs}
 use Rattle.laws.proofs.Lists.{length-of-map}
 use Rattle.layout.specs.Types.{maxTypeRows, sameType, updatedTypes}
