@@ -19,7 +19,7 @@ pub struct Stretch {
 }
 
 // The part of a stretch that lies in a buffer of that room. The first pass leaves only such as lie in it whole.
-pub fn clipped(first: u64, count: u64, room: usize) -> Stretch
+pub(crate) fn clipped(first: u64, count: u64, room: usize) -> Stretch
     ensures { λ r. ⌜ Clipped first count room r ⌝ }
 {
     let first = first as usize;
@@ -56,7 +56,7 @@ fn first_bad(rows: &[u64], kind: u64, stretch: &[u64]) -> Judged
     Judged::Kept
 }
 
-pub fn judge(rows: &[u64], refs: &[u64], e: usize) -> Judged
+pub(crate) fn judge(rows: &[u64], refs: &[u64], e: usize) -> Judged
     ensures { λ r. ⌜ verdictOf r ≡ ruleAt (now (rows .entry)) (now (refs .entry)) e ⌝ }
 {
     let row = row_at(rows, e);

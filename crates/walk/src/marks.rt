@@ -12,7 +12,7 @@ use table::row::entry_room;
 
 pub const FINISHED: u64 = MAX_ENTRIES + 1;
 
-pub fn less(a: usize, b: usize) -> usize
+pub(crate) fn less(a: usize, b: usize) -> usize
     ensures { λ r. ⌜ r ≡ a - b ⌝ }
 {
     if b <= a { a - b } else { 0 }
@@ -25,7 +25,7 @@ fn lesser(a: usize, b: usize) -> usize
 }
 
 // As many entries as rows of so many words, a witness of that room and 4,096 have place for.
-pub fn entries(count: usize, words: usize, room: usize) -> usize
+pub(crate) fn entries(count: usize, words: usize, room: usize) -> usize
     ensures { λ r. ⌜ r ≡ entriesOf count words room ⌝ }
 {
     lesser(
@@ -35,7 +35,7 @@ pub fn entries(count: usize, words: usize, room: usize) -> usize
 }
 
 // An entry at that depth of the path is in the ring if the entry met again was begun no deeper.
-pub fn enter_ring(marks: &mut [u64], depth: usize, from: usize, e: usize)
+pub(crate) fn enter_ring(marks: &mut [u64], depth: usize, from: usize, e: usize)
     ensures { λ _. ⌜ now (marks .exit) ≡ cond (leb from depth) (set (now (marks .entry)) (depth - from) e) (now (marks .entry)) ⌝ }
 {
     if from <= depth {
@@ -47,7 +47,7 @@ pub fn enter_ring(marks: &mut [u64], depth: usize, from: usize, e: usize)
 }
 
 // The mark of a finished entry becomes its rank.
-pub fn settle(marks: &mut [u64])
+pub(crate) fn settle(marks: &mut [u64])
     ensures { λ _. ⌜ now (marks .exit) ≡ map ranked (now (marks .entry)) ⌝ }
 {
     let mut i = 0;
