@@ -133,8 +133,8 @@ module _ (lent : Lent) (words rows refs names : List ℕ) (a : First)
       → Second rows refs names (lent .witness) entries b rows′ refs′ names′ w → Reads words lent b rows′ refs′ names′ w
   unfolding wholeOf
   Reads-second entries b rows′ refs′ names′ w e s =
-      let result = reading (roomOf (lent .rows) (lent .refs) (lent .names) (lent .witness)) words in
-      let all = resultOf-taken lent result a rows refs names left entries (reading-not-passed (roomOf (lent .rows) (lent .refs) (lent .names) (lent .witness)) words) e in
+      let room = roomOf (lent .rows) (lent .refs) (lent .names) (lent .witness) in
+      let all = resultOf-taken lent (reading room words) a rows refs names left entries (reading-not-passed room words) e in
       record {
         answer = s .answer ∙ ap (λ (o : Outcome). o .answer) all;
         rows-are = s .rows-are ∙ ap (λ (o : Outcome). o .rows) all;

@@ -58,7 +58,8 @@ returns-6 c =
     let at-room = at-row .before .before in
     let start = at-room .before .before in
     stretchOf-found (start .args .rows .now) (start .args .bytes) (start .args .entry .0) _ (at-row .row-at .result)
-    (at-room .entry-room .ensures) (at-row .before .if1 .left) (at-row .row-at .ensures) (c .before .before .before .before .if2 .left) (c .before .before .if3 .left) (omega arith)
+    (at-room .entry-room .ensures) (at-row .before .if1 .left) (at-row .row-at .ensures)
+    (c .before .before .before .before .if2 .left) (c .before .before .if3 .left) (omega arith)
 
 pub stretch-of-spec : {M : Type 1} → statement M
 stretch-of-spec =
