@@ -2,7 +2,7 @@
 --     everyFrom test i xs            the test holds of each, with its number
 --     refers rows ranks n e i to     reference number i of entry e, to the entry to, is lawful
 --     lawful .. e                    the width of e and its references are
---     rowOk .. e r k                 the row of e is well formed behind r references and k name bytes;  entryOk  both
+--     entryOk .. e r k               and its row is well formed behind r references and k name bytes
 --     rowsFrom .. left e r k         so are the rows from e on
 --     checked                        the checker's answer
 -- Assumes nothing.
@@ -17,7 +17,7 @@ use Rattle.table.specs.Rows.{entryRoom, rowAt}
 use Rattle.rules.specs.Places.{suits}
 use Rattle.rules.specs.Counts.{counted}
 use Rattle.rules.specs.Lawful.{maxEntries, refsAt}
-use Rattle.formed.specs.Form.{formed, placed}
+use Rattle.formed.specs.Formed.{rowOk}
 
 -- a test holds of each element with its number, from i on
 unfoldable pub everyFrom : (ℕ → ℕ → Bool) → ℕ → List ℕ → Bool
@@ -36,12 +36,6 @@ abbrev pub lawful : List ℕ → List ℕ → List ℕ → ℕ → ℕ → Bool
 lawful rows refs ranks n e =
     not (eqb (rowAt rows e .kind) integer && not (isIntegerWidth (rowAt rows e .number)))
     && everyFrom (refers rows ranks n e) 0 (refsAt rows refs e)
-
--- 2026-07: and the ninth words rise
-abbrev pub rowOk : List ℕ → ℕ → ℕ → ℕ → ℕ → ℕ → Bool
-rowOk rows refRoom nameRoom e r k =
-    formed (rowAt rows e)
-    && (placed (rowAt rows e .first) (rowAt rows e .count) r refRoom && placed (rowAt rows e .start) (rowAt rows e .len) k nameRoom)
 
 abbrev pub entryOk : List ℕ → List ℕ → ℕ → List ℕ → ℕ → ℕ → ℕ → ℕ → Bool
 entryOk rows refs nameRoom ranks n e r k = rowOk rows (length refs) nameRoom e r k && lawful rows refs ranks n e

@@ -11,6 +11,7 @@ use lib.ListN.{length}
 use Rattle.table.specs.Rows.{entryRoom, rowAt}
 use Rattle.formed.specs.Form.{formed, placed}
 
+-- 2026-07: and the ninth words rise
 abbrev pub rowOk : List ℕ → ℕ → ℕ → ℕ → ℕ → ℕ → Bool
 rowOk rows words bytes e r k =
     formed (rowAt rows e)

@@ -1,4 +1,4 @@
--- Every sample comes out as it is written: the definitions compute.
+-- Every one comes out as it is written: the definitions compute.
 -- Assumes nothing.
 use mathlib.Core.Path.{refl}
 use Rattle.kinds.specs.Codes.{typeCode}
@@ -11,11 +11,7 @@ use Rattle.shapes.specs.Shapes.{wholeShape}
 use Rattle.records.specs.Table.{fits}
 use Rattle.records.specs.Records.{after, run}
 use Rattle.records.specs.Read.{reading}
-use Rattle.records.specs.Samples.{Right, samples, tellings}
-
-pub samples-right : Right samples
-unfolding typeCode padded rowsFrom refsOf namesOf pays stream streamIn framed numEntries wholeShape fits after run reading
-samples-right = (refl, (refl, (refl, (refl, (refl, (refl, (refl, (refl, tt))))))))
+use Rattle.records.specs.Samples.{Right, tellings}
 
 pub tellings-right : Right tellings
 unfolding typeCode padded rowsFrom refsOf namesOf pays stream streamIn framed numEntries wholeShape fits after run reading

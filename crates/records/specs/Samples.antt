@@ -1,6 +1,6 @@
--- Samples of document 01 that the first pass decides, and those of its readings that tell two of them apart: words, lengths of the
--- outputs, the answer by its numbers, and every word of the outputs.
---     Right samples     each of them comes out so
+-- Inputs that tell a reading of document 01 from another and that the first pass decides: words, lengths of the outputs, the
+-- answer by its numbers, and every word of the outputs. Document 01's own samples are ferry/specs/Samples.
+--     Right tellings     each of them comes out so
 -- Assumes nothing.
 use mathlib.Core.Path.{_≡_}
 use mathlib.Core.List.{List, [], _∷_}
@@ -31,35 +31,6 @@ sample ws r f n w v rows refs names =
 abbrev pub Right : List Sample → Type 0
 Right [] = Unit {0}
 Right (s ∷ ss) = (s .seen ≡ s .sight) × Right ss
-
--- samples of document 01
-abbrev pub samples : List Sample
-samples =
-    -- (none): 2, 0, 0
-    sample ([]) 8 1 1 1 (refusal 2 0 0)
-    (0 ∷ 0 ∷ 0 ∷ 0 ∷ 0 ∷ 0 ∷ 0 ∷ 0 ∷ []) (0 ∷ []) (0 ∷ [])
-    -- accepted, empty
-    ∷ sample (1 ∷ 1 ∷ 0 ∷ []) 0 0 0 0 (accepted 0)
-    ([]) ([]) ([])
-    -- row 13 8 0 0 0 0 0 0
-    ∷ sample (1 ∷ 1 ∷ 1 ∷ 7 ∷ 1 ∷ 8 ∷ []) 8 0 0 1 (accepted 1)
-    (13 ∷ 8 ∷ 0 ∷ 0 ∷ 0 ∷ 0 ∷ 0 ∷ 0 ∷ []) ([]) ([])
-    -- width 8
-    ∷ sample (1 ∷ 1 ∷ 1 ∷ 7 ∷ 1 ∷ 4294967304 ∷ []) 8 0 0 1 (accepted 1)
-    (13 ∷ 8 ∷ 0 ∷ 0 ∷ 0 ∷ 0 ∷ 0 ∷ 0 ∷ []) ([]) ([])
-    -- references 1
-    ∷ sample (1 ∷ 1 ∷ 2 ∷ 8 ∷ 2 ∷ 1 ∷ 0 ∷ 7 ∷ 1 ∷ 32 ∷ []) 16 1 0 2 (accepted 2)
-    (15 ∷ 0 ∷ 0 ∷ 0 ∷ 1 ∷ 0 ∷ 0 ∷ 0 ∷ 13 ∷ 32 ∷ 0 ∷ 0 ∷ 0 ∷ 0 ∷ 0 ∷ 0 ∷ []) (1 ∷ []) ([])
-    -- row 16 0 1 0 1 0 2 1; names AB
-    ∷ sample (1 ∷ 1 ∷ 2 ∷ 18 ∷ 1 ∷ 1 ∷ 19 ∷ 1 ∷ 65 ∷ 19 ∷ 1 ∷ 66 ∷ 20 ∷ 2 ∷ 0 ∷ 1 ∷ 7 ∷ 1 ∷ 8 ∷ []) 16 1 2 2 (accepted 2)
-    (16 ∷ 0 ∷ 1 ∷ 0 ∷ 1 ∷ 0 ∷ 2 ∷ 1 ∷ 13 ∷ 8 ∷ 0 ∷ 0 ∷ 0 ∷ 0 ∷ 0 ∷ 0 ∷ []) (1 ∷ []) (65 ∷ 66 ∷ [])
-    -- 7, 2, 0
-    ∷ sample (1 ∷ 1 ∷ 2 ∷ 20 ∷ 1 ∷ 0 ∷ 20 ∷ 1 ∷ 0 ∷ []) 16 0 0 2 (refusal 7 2 0)
-    (0 ∷ 0 ∷ 0 ∷ 0 ∷ 0 ∷ 0 ∷ 0 ∷ 0 ∷ 0 ∷ 0 ∷ 0 ∷ 0 ∷ 0 ∷ 0 ∷ 0 ∷ 0 ∷ []) ([]) ([])
-    -- 8, 1, 8388608
-    ∷ sample (1 ∷ 1 ∷ 1 ∷ 25 ∷ 1 ∷ 8388608 ∷ []) 0 0 0 0 (refusal 8 1 8388608)
-    ([]) ([]) ([])
-    ∷ []
 
 -- inputs that tell a reading of the document from another
 abbrev pub tellings : List Sample

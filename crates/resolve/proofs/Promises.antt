@@ -20,12 +20,12 @@ use Rattle.rules.specs.Lawful.{tableOf}
 use Rattle.walk.specs.declared.Resolution.{Resolution}
 use Rattle.walk.specs.Answers.{accepted, refused, cycle, paperOf, paperIn}
 use Rattle.walk.specs.Resolve.{witnessBy, Resolves}
-use Rattle.resolve.specs.Formed.{wellFormed}
+use Rattle.resolve.specs.Formed.{tableFormed}
 use Rattle.resolve.specs.Promises.{Lowest, Demand3, Determined, Flat}
 use Rattle.resolve.specs.Entries.{entriesFrom}
 use Rattle.resolve.proofs.Laws.Checked.{checked-passes, passes-checked}
-use Rattle.resolve.proofs.Laws.Entries.{holds-wellFormed, holds-unique}
-use Rattle.resolve.proofs.Laws.Reading.{wellFormed-holds}
+use Rattle.resolve.proofs.Laws.Entries.{holds-tableFormed, holds-unique}
+use Rattle.resolve.proofs.Laws.Reading.{tableFormed-holds}
 use Rattle.resolve.proofs.Laws.Answers.{paperOf-unique, ruleAt-no-cycle}
 
 -- zeros behind a list change nothing that is read
@@ -54,7 +54,7 @@ passes-padded t room ranks p = record {
   falls = λ e r lt k. rw (getD-padded room ranks r, getD-padded room ranks e) (p .falls e r lt k);
 }
 
-module _ (rows refs names : List ℕ) (n room : ℕ) (r : Resolution) (w : List ℕ) (formed : wellFormed rows refs names n ≡ true) where
+module _ (rows refs names : List ℕ) (n room : ℕ) (r : Resolution) (w : List ℕ) (formed : tableFormed rows refs names n ≡ true) where
   -- by the theory's outcome, of which the contract tells
   module _ (l : List ℕ) where
     lowest : Ranked (tableOf rows refs n) (ranksOf l) → w ≡ padded room (ranksOf l) → Lowest rows refs names n w
@@ -136,9 +136,9 @@ flat rows refs names ranks n = (
   (
     λ h.
         let p = checked-passes rows refs names ranks n h in
-        let f = wellFormed-holds rows refs names n (p .0) in
+        let f = tableFormed-holds rows refs names n (p .0) in
         (entriesFrom rows refs names n 0, f .0, f .1, p .1),
-    λ s. passes-checked rows refs names ranks n (rw (s .1) at (holds-wellFormed rows refs names (s .0) (s .2))) (s .3),
+    λ s. passes-checked rows refs names ranks n (rw (s .1) at (holds-tableFormed rows refs names (s .0) (s .2))) (s .3),
   ),
   λ es fs h k len. sym (holds-unique rows refs names es h) ∙ (ap (λ (m : ℕ). entriesFrom rows refs names m 0) len
       ∙ holds-unique rows refs names fs k),

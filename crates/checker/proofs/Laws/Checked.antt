@@ -21,7 +21,8 @@ use Rattle.rules.specs.Places.{placeAt, notAllowed, suits}
 use Rattle.rules.specs.Counts.{counted}
 use Rattle.rules.specs.Lawful.{maxEntries}
 use Rattle.formed.specs.Form.{formed, placed}
-use Rattle.checker.specs.Checked.{everyFrom, refers, lawful, rowOk, entryOk, rowsFrom, checked}
+use Rattle.formed.specs.Formed.{rowOk}
+use Rattle.checker.specs.Checked.{everyFrom, refers, lawful, entryOk, rowsFrom, checked}
 
 -- a reference out of range, and one in range, in the code's words
 module _ (rows ranks : List ℕ) (n e i to : ℕ) where

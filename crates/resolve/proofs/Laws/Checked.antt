@@ -17,8 +17,9 @@ use Rattle.ranks.specs.Table.{kept, broken, Refers, Lawful, Passes}
 use Rattle.rules.specs.Places.{placeAt, suits}
 use Rattle.rules.specs.Counts.{counted}
 use Rattle.rules.specs.Lawful.{maxEntries, refsAt, badWidth, numberOf, firstBad, ruleAt, tableOf}
-use Rattle.checker.specs.Checked.{everyFrom, refers, lawful, rowOk, rowsFrom, checked}
-use Rattle.resolve.specs.Formed.{formedFrom, wellFormed}
+use Rattle.formed.specs.Formed.{rowOk, formedFrom, wellFormed}
+use Rattle.checker.specs.Checked.{everyFrom, refers, lawful, rowsFrom, checked}
+use Rattle.resolve.specs.Formed.{tableFormed}
 
 -- references, from number i of entry e on
 module _ (rows refs ranks : List ℕ) (n e : ℕ) where
@@ -144,8 +145,8 @@ module _ (rows refs : List ℕ) (bytes : ℕ) (ranks : List ℕ) (n : ℕ) where
       (both-rows left (suc e) (r + rowAt rows e .count) (k + rowAt rows e .len) (p .1) (λ i a b. f i (omega arith) (omega arith)))
 
 module _ (rows refs names ranks : List ℕ) (n : ℕ) where
-  pub checked-passes : checked rows refs names ranks n ≡ true → (wellFormed rows refs names n ≡ true) × Passes (tableOf rows refs n) ranks
-  unfolding checked wellFormed
+  pub checked-passes : checked rows refs names ranks n ≡ true → (tableFormed rows refs names n ≡ true) × Passes (tableOf rows refs n) ranks
+  unfolding checked tableFormed wellFormed
   checked-passes h =
       let a = and-true (leb n maxEntries) _ h in
       let b = and-true (leb n (entryRoom (length rows))) _ (a .1) in
@@ -159,8 +160,8 @@ module _ (rows refs names ranks : List ℕ) (n : ℕ) where
         },
       )
 
-  pub passes-checked : wellFormed rows refs names n ≡ true → Passes (tableOf rows refs n) ranks → checked rows refs names ranks n ≡ true
-  unfolding checked wellFormed
+  pub passes-checked : tableFormed rows refs names n ≡ true → Passes (tableOf rows refs n) ranks → checked rows refs names ranks n ≡ true
+  unfolding checked tableFormed wellFormed
   passes-checked h p =
       let a = and-true (leb n maxEntries) _ h in
       let b = and-true (leb n (entryRoom (length rows))) _ (a .1) in

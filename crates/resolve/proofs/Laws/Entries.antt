@@ -14,8 +14,8 @@ use Rattle.table.specs.Rows.{rowWords, entryRoom, rowAt, wordsOf, rowOf, placeO
 use Rattle.table.proofs.Laws.Rows.{rowAt-is, length-rowsOf}
 use Rattle.rules.specs.Lawful.{maxEntries, refsAt}
 use Rattle.formed.specs.Form.{formed, placed}
-use Rattle.checker.specs.Checked.{rowOk}
-use Rattle.resolve.specs.Formed.{formedFrom, wellFormed}
+use Rattle.formed.specs.Formed.{rowOk, formedFrom, wellFormed}
+use Rattle.resolve.specs.Formed.{tableFormed}
 use Rattle.resolve.specs.Entries.{Begins, EachFormed, Holds, nameBy, entryAt, entriesFrom}
 
 -- a buffer that begins, behind fill elements, with a stretch and more
@@ -167,9 +167,9 @@ module _ (rows refs names : List ℕ) where
       rw (row-ok rows refs names e r k x xs h, count, len)
       (formed-from xs (suc e) (r + length (x .form .refs)) (k + length (bytesOf (x .form .name))) (held-more rows refs names e r k x xs h))
 
-  pub holds-wellFormed : (es : List Entry) → Holds rows refs names es → wellFormed rows refs names (length es) ≡ true
-  unfolding wellFormed
-  holds-wellFormed es h =
+  pub holds-tableFormed : (es : List Entry) → Holds rows refs names es → tableFormed rows refs names (length es) ≡ true
+  unfolding tableFormed wellFormed
+  holds-tableFormed es h =
       let room : length es ≤ entryRoom (length rows) = rows-room (h .in-rows .rest) (ap length (h .in-rows .is)) in
       rw (le-leb (length es) maxEntries (h .few), le-leb (length es) (entryRoom (length rows)) room)
       (formed-from es 0 0 0 (record { in-rows = h .in-rows; in-refs = h .in-refs; in-names = h .in-names; each = h .each }))

@@ -18,8 +18,8 @@ use Rattle.table.specs.Rows.{rowWords, entryRoom, rowAt, wordsOf, rowOf, placeO
 use Rattle.table.proofs.Laws.Rows.{rowAt-is}
 use Rattle.rules.specs.Lawful.{maxEntries, refsAt}
 use Rattle.formed.specs.Form.{formed, placed, numberForm, flagForm, countForm, namedForm}
-use Rattle.checker.specs.Checked.{rowOk}
-use Rattle.resolve.specs.Formed.{formedFrom, wellFormed}
+use Rattle.formed.specs.Formed.{rowOk, formedFrom, wellFormed}
+use Rattle.resolve.specs.Formed.{tableFormed}
 use Rattle.resolve.specs.Entries.{Begins, Holds, nameBy, entryAt, entriesFrom}
 use Rattle.resolve.proofs.Laws.Entries.{Held, stretch-place, formed-places}
 
@@ -165,10 +165,10 @@ module _ (rows refs names : List ℕ) where
   entries-length zero e = refl
   entries-length (suc left) e = ap suc (entries-length left (suc e))
 
-  pub wellFormed-holds : (n : ℕ) → wellFormed rows refs names n ≡ true
+  pub tableFormed-holds : (n : ℕ) → tableFormed rows refs names n ≡ true
       → (length (entriesFrom rows refs names n 0) ≡ n) × Holds rows refs names (entriesFrom rows refs names n 0)
-  unfolding wellFormed
-  wellFormed-holds n h =
+  unfolding tableFormed wellFormed
+  tableFormed-holds n h =
       let a = and-true (leb n maxEntries) _ h in
       let b = and-true (leb n (entryRoom (length rows))) _ (a .1) in
       let few = leb-true n maxEntries (a .0) in
