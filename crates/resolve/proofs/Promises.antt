@@ -18,8 +18,8 @@ use Rattle.ranks.proofs.Heights.{height-same}
 use Rattle.ranks.proofs.Promises.{resolve-deserved}
 use Rattle.rules.specs.Lawful.{tableOf}
 use Rattle.walk.specs.declared.Resolution.{Resolution}
-use Rattle.walk.specs.Answers.{accepted, refused, cycle, paperOf, paperIn}
-use Rattle.walk.specs.Resolve.{witnessBy, Resolves}
+use Rattle.walk.specs.Answers.{Paper, accepted, refused, cycle, paperOf, paperIn}
+use Rattle.walk.specs.Resolve.{witnessBy, witnessIn, Resolves}
 use Rattle.resolve.specs.Formed.{tableFormed}
 use Rattle.resolve.specs.Promises.{Lowest, Demand3, Determined, Flat}
 use Rattle.resolve.specs.Entries.{entriesFrom}
@@ -54,7 +54,7 @@ passes-padded t room ranks p = record {
   falls = λ e r lt k. rw (getD-padded room ranks r, getD-padded room ranks e) (p .falls e r lt k);
 }
 
-module _ (rows refs names : List ℕ) (n room : ℕ) (r : Resolution) (w : List ℕ) (formed : tableFormed rows refs names n ≡ true) where
+module _ (rows refs names : List ℕ) (n room : ℕ) (verdict : Paper) (w : List ℕ) (formed : tableFormed rows refs names n ≡ true) where
   -- by the theory's outcome, of which the contract tells
   module _ (l : List ℕ) where
     lowest : Ranked (tableOf rows refs n) (ranksOf l) → w ≡ padded room (ranksOf l) → Lowest rows refs names n w
@@ -82,8 +82,8 @@ module _ (rows refs names : List ℕ) (n room : ℕ) (r : Resolution) (w : List 
     fault-no-cycle p e d (inl h) q = omega (arith, h .number)
     fault-no-cycle p e d (inr h) q = ruleAt-no-cycle rows refs e p d (h .breaks) q
 
-    by-answer : (a : Answer) → Means (tableOf rows refs n) l a → paperOf r ≡ paperIn a → w ≡ padded room (witnessBy a l)
-        → Demand3 rows refs names n room r w
+    by-answer : (a : Answer) → Means (tableOf rows refs n) l a → verdict ≡ paperIn a → w ≡ padded room (witnessBy a l)
+        → Demand3 rows refs names n room verdict w
     by-answer (Rank k) m says is = record {
       decided = (λ q. (w, lowest m is .passes), λ some. says);
       ranked = λ q. lowest m is;
@@ -124,9 +124,14 @@ module _ (rows refs names : List ℕ) (n room : ℕ) (r : Resolution) (w : List 
       refuted = λ p′ e′ d′ q ranks ok. m .refutes ranks (checked-passes rows refs names ranks n ok .1);
     }
 
-  pub demand-3 : Resolves rows refs n room r w → Demand3 rows refs names n room r w
-  demand-3 h = by-answer (resolve (tableOf rows refs n) .marks) (resolve (tableOf rows refs n) .answer)
-      (resolve-deserved (tableOf rows refs n)) (h .answer) (h .content)
+  pub outcome-demand-3 : verdict ≡ paperIn (resolve (tableOf rows refs n) .answer)
+      → w ≡ padded room (witnessIn (resolve (tableOf rows refs n))) → Demand3 rows refs names n room verdict w
+  outcome-demand-3 says is = by-answer (resolve (tableOf rows refs n) .marks) (resolve (tableOf rows refs n) .answer)
+      (resolve-deserved (tableOf rows refs n)) says is
+
+pub demand-3 : (rows refs names : List ℕ) (n room : ℕ) (r : Resolution) (w : List ℕ) → tableFormed rows refs names n ≡ true
+    → Resolves rows refs n room r w → Demand3 rows refs names n room (paperOf r) w
+demand-3 rows refs names n room r w formed h = outcome-demand-3 rows refs names n room (paperOf r) w formed (h .answer) (h .content)
 
 pub determined : (rows refs : List ℕ) (n room : ℕ) → Determined rows refs n room
 determined rows refs n room r s w v h k = (paperOf-unique r s (h .answer ∙ sym (k .answer)), h .content ∙ sym (k .content))

@@ -2,7 +2,7 @@
 -- entries, answers r and leaves the witness w; `checked` is the contract of `checker::check::check`.
 --     Lowest                 ranks that pass the checker, and of all that do the lowest
 --     RingFirst              a ring that starts with k and has m entries, first in the witness
---     Demand3                the demand, for rows that are well formed
+--     Demand3                the demand, for rows that are well formed, of a verdict and a witness
 --     Determined             no second answer fits
 --     Flat                   the checker says yes exactly of the flat form of one list of entries, lawful with the ranks
 -- Assumes nothing.
@@ -18,7 +18,7 @@ use Rattle.ranks.specs.Table.{Passes, IsRing, height}
 use Rattle.ranks.specs.Promises.{Blamed}
 use Rattle.rules.specs.Lawful.{tableOf}
 use Rattle.walk.specs.declared.Resolution.{Resolution}
-use Rattle.walk.specs.Answers.{accepted, refused, cycle, paperOf}
+use Rattle.walk.specs.Answers.{Paper, accepted, refused, cycle}
 use Rattle.walk.specs.Resolve.{Resolves}
 use Rattle.checker.specs.Checked.{checked}
 use Rattle.resolve.specs.Entries.{Holds}
@@ -38,16 +38,16 @@ pub record RingFirst (rows refs : List ℕ) (n room k m : ℕ) (w : List ℕ) : 
   pub long : length ring ≡ m
   pub first : w ≡ padded room ring
 
-pub record Demand3 (rows refs names : List ℕ) (n room : ℕ) (r : Resolution) (w : List ℕ) : Type 0 where
+pub record Demand3 (rows refs names : List ℕ) (n room : ℕ) (verdict : Paper) (w : List ℕ) : Type 0 where
   -- 1. the walk accepts exactly if some list of ranks passes the checker
-  pub decided : (paperOf r ≡ accepted) ↔ ((ranks : List ℕ) × (checked rows refs names ranks n ≡ true))
-  pub ranked : paperOf r ≡ accepted → Lowest rows refs names n w
+  pub decided : (verdict ≡ accepted) ↔ ((ranks : List ℕ) × (checked rows refs names ranks n ≡ true))
+  pub ranked : verdict ≡ accepted → Lowest rows refs names n w
   -- 3. a refusal 19 shows a ring
-  pub ring : (k m : ℕ) → paperOf r ≡ refused cycle k m → RingFirst rows refs n room k m w
+  pub ring : (k m : ℕ) → verdict ≡ refused cycle k m → RingFirst rows refs n room k m w
   -- 4. every other refusal names a rule that is broken at that place, and the first that the order of 01 meets
-  pub blamed : (p e d : ℕ) → paperOf r ≡ refused p e d → (p ≡ cycle → ⊥) → Blamed (tableOf rows refs n) p e d × (w ≡ zeros room)
+  pub blamed : (p e d : ℕ) → verdict ≡ refused p e d → (p ≡ cycle → ⊥) → Blamed (tableOf rows refs n) p e d × (w ≡ zeros room)
   -- and where anything is refused, no list of ranks can pass
-  pub refuted : (p e d : ℕ) → paperOf r ≡ refused p e d → (ranks : List ℕ) → checked rows refs names ranks n ≡ true → ⊥
+  pub refuted : (p e d : ℕ) → verdict ≡ refused p e d → (ranks : List ℕ) → checked rows refs names ranks n ≡ true → ⊥
 
 -- 5. the answer and the whole witness are determined
 abbrev pub Determined : List ℕ → List ℕ → ℕ → ℕ → Type 0
