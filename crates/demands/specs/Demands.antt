@@ -1,19 +1,22 @@
--- Demands 2 and 3 for the whole reader. `Reads words lent a rows refs names w` is the contract of `ferry::read::read_table`, which
+-- The three demands for the whole reader. `Reads words lent a rows refs names w` is the contract of `ferry::read::read_table`, which
 -- answers a and leaves the outputs rows, refs, names and the witness w.
 --     Determined     no second answer and no other outputs fit the contract
+--     Zeroed         demand 1: what a refusal leaves
+--     Tied           demand 2: what acceptance hands back is the flat form of what the records say
 --     Reader3        once the records have passed as es: what demand 3 says of the answer and of the witness
 -- Assumes nothing.
 use mathlib.Core.Path.{_≡_}
 use mathlib.Core.List.{List}
 use Prim.Native.Nat.{ℕ}
 use lib.ListN.{length}
-use Rattle.table.specs.Buffers.{padded}
+use Rattle.table.specs.Buffers.{zeros, padded}
 use Rattle.table.specs.Entries.{Entry}
 use Rattle.table.specs.Rows.{rowsOf, refsOf, namesOf}
 use Rattle.records.specs.Read.{taken, reading, roomOf}
-use Rattle.walk.specs.Answers.{Paper}
+use Rattle.walk.specs.Answers.{Paper, cycle}
 use Rattle.resolve.specs.Promises.{Demand3}
 use Rattle.ferry.specs.declared.Answer.{Answer}
+use Rattle.ferry.specs.declared.Answer.the-variants.{Accepted, Refused}
 use Rattle.ferry.specs.Answers.{onPaper}
 use Rattle.ferry.specs.Reader.{Lent, Reads}
 
@@ -22,6 +25,29 @@ abbrev pub Determined : Type 0
 Determined =
     (words : List ℕ) (lent : Lent) (a b : Answer) (r s f g m n w v : List ℕ) → Reads words lent a r f m w → Reads words lent b s g n v
     → (a ≡ b) × (r ≡ s) × (f ≡ g) × (m ≡ n) × (w ≡ v)
+
+-- demand 1: "A refusal .. zeroes every lent output but a shown ring."
+abbrev pub Zeroed : Type 0
+Zeroed =
+    (words : List ℕ) (lent : Lent) (number place detail : ℕ) (rows refs names w : List ℕ)
+    → Reads words lent (Refused number place detail) rows refs names w
+    → (rows ≡ zeros (lent .rows)) × (refs ≡ zeros (lent .refs)) × (names ≡ zeros (lent .names))
+    × ((number ≡ cycle → ⊥) → w ≡ zeros (lent .witness))
+
+-- the records say the entries es, n of them, and the outputs hold their flat form with zeros behind it
+pub record Flattened (words : List ℕ) (lent : Lent) (n : ℕ) (rows refs names : List ℕ) : Type 0 where
+  pub entries : List Entry
+  pub passed : reading (roomOf (lent .rows) (lent .refs) (lent .names) (lent .witness)) words ≡ taken entries
+  pub counted : n ≡ length entries
+  pub rows-are : rows ≡ padded (lent .rows) (rowsOf entries)
+  pub refs-are : refs ≡ padded (lent .refs) (refsOf entries)
+  pub names-are : names ≡ padded (lent .names) (namesOf entries)
+
+-- demand 2: "Ranks alone don't tie rows to records; demand 2 does."
+abbrev pub Tied : Type 0
+Tied =
+    (words : List ℕ) (lent : Lent) (n : ℕ) (rows refs names w : List ℕ) → Reads words lent (Accepted n) rows refs names w
+    → Flattened words lent n rows refs names
 
 -- the answer a is a verdict on the flat form of es, and demand 3 holds of the verdict and of the witness w
 pub record Reader3 (lent : Lent) (es : List Entry) (a : Answer) (w : List ℕ) : Type 0 where

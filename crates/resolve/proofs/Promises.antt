@@ -42,7 +42,7 @@ length-padded : (room : ℕ) (xs : List ℕ) → length xs ≤ length (padded ro
 unfolding padded
 length-padded room xs = simp length-append (omega arith)
 
-padded-none : (room : ℕ) → padded room [] ≡ zeros room
+pub padded-none : (room : ℕ) → padded room [] ≡ zeros room
 unfolding padded
 padded-none room = let z : room - 0 ≡ room = omega arith in rw z
 

@@ -65,7 +65,7 @@ refused-not-passed Whole (Count stated) (whole t) n e = by-count (eqb stated (le
     by-count true e = let z : _≡_ {A = ℕ} 0 1 = cc in omega arith
     by-count false e = let z : _≡_ {A = ℕ} 0 1 = cc in omega arith
 
-reading-not-passed : (room : Room) (words : List ℕ) (n : ℕ) → reading room words ≡ refused (Passed n) → ⊥
+pub reading-not-passed : (room : Room) (words : List ℕ) (n : ℕ) → reading room words ≡ refused (Passed n) → ⊥
 unfolding reading
 reading-not-passed room words n e =
     refused-not-passed (framed 0 (stream words)) (statedBy (numEntries (stream words))) (run room 0 empty (stream words)) n e
@@ -90,7 +90,7 @@ resultOf-refused lent (refused b) a rows refs names left number place detail e =
     let names-are : names ≡ zeros (lent .names) = ap (λ (o : Output). o .names) left in
     rw (same, rows-are, refs-are, names-are)
 
-passed-of-answer : (b : First) (entries : ℕ) → firstAnswer b ≡ Accepted entries → b ≡ Passed entries
+pub passed-of-answer : (b : First) (entries : ℕ) → firstAnswer b ≡ Accepted entries → b ≡ Passed entries
 passed-of-answer (Passed n) entries e = let same : n ≡ entries = cc in ap Passed same
 passed-of-answer (CutRecord head) entries e = let z : _≡_ {A = ℕ} 0 1 = cc in absurd (omega arith)
 passed-of-answer NoSingleCount entries e = let z : _≡_ {A = ℕ} 0 1 = cc in absurd (omega arith)
