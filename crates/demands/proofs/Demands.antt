@@ -20,26 +20,19 @@ use Rattle.rules.specs.Lawful.{maxEntries, tableOf}
 use Rattle.formed.specs.Formed.{formedFrom, wellFormed}
 use Rattle.records.specs.Table.{Room}
 use Rattle.records.specs.Read.{Result, taken, refused, reading, roomOf}
+use Rattle.records.proofs.Promises as records
 use Rattle.records.proofs.Promises.{rows-formed, in-room}
 use Rattle.walk.specs.Answers.{paperIn, cycle}
 use Rattle.walk.specs.Resolve.{entriesOf, witnessBy, witnessIn}
 use Rattle.resolve.specs.Formed.{tableFormed}
+use Rattle.resolve.proofs.Promises as walk
 use Rattle.resolve.proofs.Promises.{padded-none, outcome-demand-3}
 use Rattle.ferry.specs.declared.Answer.{Answer}
 use Rattle.ferry.specs.declared.Answer.the-variants.{Accepted, Refused}
 use Rattle.ferry.specs.Answers.{answerBy}
 use Rattle.ferry.specs.Reader.{Lent, Reads, keepsBy, resolvedIn, resultOf, wholeOf}
 use Rattle.ferry.proofs.Laws.Reader.{reading-not-passed, passed-of-answer}
-use Rattle.demands.specs.Demands.{Determined, Zeroed, Flattened, Tied, Reader3, Demanded}
-
-pub determined : Determined
-determined words lent a b r s f g m n w v h k = (
-  h .answer ∙ sym (k .answer),
-  h .rows-are ∙ sym (k .rows-are),
-  h .refs-are ∙ sym (k .refs-are),
-  h .names-are ∙ sym (k .names-are),
-  h .witness-is ∙ sym (k .witness-is),
-)
+use Rattle.demands.specs.Demands.{Zeroed, Flattened, Tied, Reader3, Demanded, OneAnswer}
 
 padded-fits : (n : ℕ) (xs : List ℕ) → length xs ≤ n → length (padded n xs) ≡ n
 unfolding padded
@@ -147,3 +140,22 @@ demanded words lent es a rows refs names w e h =
       answers = a-is;
       demand-3 = outcome-demand-3 R F N (length es) (lent .witness) _ w formed refl w-is;
     }
+
+pub one-answer : OneAnswer
+one-answer = record {
+  read-table = λ words lent a b r s f g m n w v h k. (
+    h .answer ∙ sym (k .answer),
+    h .rows-are ∙ sym (k .rows-are),
+    h .refs-are ∙ sym (k .refs-are),
+    h .names-are ∙ sym (k .names-are),
+    h .witness-is ∙ sym (k .witness-is),
+  );
+  read = records.determined;
+  resolve = walk.determined;
+  name = λ rows e names at part other place elsewhere h k. (
+    h .bytes ∙ sym (k .bytes),
+    h .block ∙ sym (k .block),
+    h .offset ∙ sym (k .offset),
+  );
+  equation = λ d a b p q. p ∙ sym q;
+}

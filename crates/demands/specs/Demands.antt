@@ -1,9 +1,9 @@
 -- The three demands for the whole reader. `Reads words lent a rows refs names w` is the contract of `ferry::read::read_table`, which
 -- answers a and leaves the outputs rows, refs, names and the witness w.
---     Determined     no second answer and no other outputs fit the contract
 --     Zeroed         demand 1: what a refusal leaves
 --     Tied           demand 2: what acceptance hands back is the flat form of what the records say
---     Reader3        once the records have passed as es: what demand 3 says of the answer and of the witness
+--     Reader3        once the records have passed as es: what demand 3 says of the answer and of the witness;  Demanded  it does
+--     OneAnswer      no second answer and no other outputs fit the contract of any public function
 -- Assumes nothing.
 use mathlib.Core.Path.{_≡_}
 use mathlib.Core.List.{List}
@@ -12,19 +12,16 @@ use lib.ListN.{length}
 use Rattle.table.specs.Buffers.{zeros, padded}
 use Rattle.table.specs.Entries.{Entry}
 use Rattle.table.specs.Rows.{rowsOf, refsOf, namesOf}
+use Rattle.lookup.specs.Names.{IsName}
+use Rattle.records.specs.Promises as records
 use Rattle.records.specs.Read.{taken, reading, roomOf}
 use Rattle.walk.specs.Answers.{Paper, cycle}
+use Rattle.resolve.specs.Promises as resolve
 use Rattle.resolve.specs.Promises.{Demand3}
 use Rattle.ferry.specs.declared.Answer.{Answer}
 use Rattle.ferry.specs.declared.Answer.the-variants.{Accepted, Refused}
 use Rattle.ferry.specs.Answers.{onPaper}
 use Rattle.ferry.specs.Reader.{Lent, Reads}
-
--- "Each public answer, with every output after it, is determined for all inputs"
-abbrev pub Determined : Type 0
-Determined =
-    (words : List ℕ) (lent : Lent) (a b : Answer) (r s f g m n w v : List ℕ) → Reads words lent a r f m w → Reads words lent b s g n v
-    → (a ≡ b) × (r ≡ s) × (f ≡ g) × (m ≡ n) × (w ≡ v)
 
 -- demand 1: "A refusal .. zeroes every lent output but a shown ring."
 abbrev pub Zeroed : Type 0
@@ -62,3 +59,27 @@ Demanded =
     (words : List ℕ) (lent : Lent) (es : List Entry) (a : Answer) (rows refs names w : List ℕ)
     → reading (roomOf (lent .rows) (lent .refs) (lent .names) (lent .witness)) words ≡ taken es → Reads words lent a rows refs names w
     → Reader3 lent es a w
+
+-- `lookup::name`: its bytes and its place
+abbrev pub NameDetermined : Type 0
+NameDetermined =
+    (rows : List ℕ) (e : ℕ) (names : List ℕ) (at : ℕ × ℕ) (part other : List ℕ) (place elsewhere : ℕ × ℕ)
+    → IsName rows e names at part place → IsName rows e names at other elsewhere
+    → (part ≡ other) × (place .0 ≡ elsewhere .0) × (place .1 ≡ elsewhere .1)
+
+-- `ferry::read::read_table`: its answer and its four outputs
+abbrev pub TableDetermined : Type 0
+TableDetermined =
+    (words : List ℕ) (lent : Lent) (a b : Answer) (r s f g m n w v : List ℕ) → Reads words lent a r f m w → Reads words lent b s g n v
+    → (a ≡ b) × (r ≡ s) × (f ≡ g) × (m ≡ n) × (w ≡ v)
+
+-- "Each public answer, with every output after it, is determined for all inputs; show that no second answer fits"
+pub record OneAnswer : Type 1 where
+  pub read-table : TableDetermined
+  -- `records::read::read`
+  pub read : records.Determined
+  -- `walk::walk::resolve`
+  pub resolve : (rows refs : List ℕ) (n room : ℕ) → resolve.Determined rows refs n room
+  pub name : NameDetermined
+  -- every other public function: its contract is one equation, of the answer or of the output, with a definition d of its inputs
+  pub equation : {A : Type 0} (d a b : A) → a ≡ d → b ≡ d → a ≡ b
