@@ -19,7 +19,8 @@ fn second(
     witness: &mut [u64],
     entries: u64,
 ) -> Answer
-    ensures { λ r. ⌜ Second (now (rows .entry)) (now (refs .entry)) (now (names .entry)) (length (now (witness .entry))) entries r (now (rows .exit)) (now (refs .exit)) (now (names .exit)) (now (witness .exit)) ⌝ }
+    ensures { λ r. ⌜ Second (now (rows .entry)) (now (refs .entry)) (now (names .entry)) (length (now (witness .entry))) entries
+        r (now (rows .exit)) (now (refs .exit)) (now (names .exit)) (now (witness .exit)) ⌝ }
 {
     let answer = of_second(entries, resolve(rows, refs, entries as usize, witness));
     match answer {
@@ -41,7 +42,9 @@ pub fn read_table(
     names: &mut [u8],
     witness: &mut [u64],
 ) -> Answer
-    ensures { λ r. ⌜ Reads (now (words .entry)) (lentBy (now (rows .entry)) (now (refs .entry)) (now (names .entry)) (now (witness .entry))) r (now (rows .exit)) (now (refs .exit)) (now (names .exit)) (now (witness .exit)) ⌝ }
+    ensures { λ r. ⌜ Reads (now (words .entry))
+        (lentBy (now (rows .entry)) (now (refs .entry)) (now (names .entry)) (now (witness .entry)))
+        r (now (rows .exit)) (now (refs .exit)) (now (names .exit)) (now (witness .exit)) ⌝ }
 {
     let answer = of_first(records::read::read(words, rows, refs, names, witness.len()));
     match answer {
