@@ -6,8 +6,10 @@ use crate::out::put;
 use crate::out::put_bytes_as_words;
 use crate::out::put_words;
 use checker::check::check;
+use datalayout::map::from_str;
 use ferry::Answer;
 use ferry::read::read_table;
+use flat::put::put_layout;
 use table::TypeRef;
 use table::buffer::put_bytes;
 
@@ -22,6 +24,9 @@ pub(crate) const NAMES: usize = 16_384;
 pub(crate) const WITNESS: usize = 4_096;
 
 const LAYOUT_BYTES: usize = 4_096;
+
+// The longest layout.
+const LAYOUT_WORDS: usize = 461;
 
 // "every lent output of op 1 is filled with the word 0xA5A5A5A5A5A5A5A5 (names: the byte 0xA5)"
 const FILL_WORD: u64 = 0xA5A5_A5A5_A5A5_A5A5;
@@ -264,6 +269,58 @@ fn put_name(entry: u64, rows: &[u64], names: &[u8], answer: &mut [u8]) -> usize 
     put(answer, first, 0)
 }
 
+fn put_layout_words(answer: &mut [u8], at: usize, words: &[u64], count: usize) -> usize {
+    if count <= words.len() {
+        return put_words(answer, at, &words[..count]);
+    }
+    at
+}
+
+// "number, place, detail (0, 0, 0: accepted), then the layout"
+fn put_mapped(value: &[u8], answer: &mut [u8]) -> usize {
+    let mapped = from_str(value);
+    let given = mapped.answer;
+    let refusal = given.refusal();
+    let told = Told {
+        number: refusal.number,
+        place: refusal.place as u64,
+        detail: refusal.detail as u64,
+    };
+    let at = put_told(answer, told);
+    let layout = mapped.layout;
+    let mut words = [0u64; LAYOUT_WORDS];
+    let count = put_layout(&mut words, layout);
+    put_layout_words(answer, at, &words, count)
+}
+
+// Op 4, of a string whose bytes are words here.
+fn layout(byte_words: &[u64], space: &mut [u8], answer: &mut [u8]) -> usize {
+    let n = byte_words.len();
+    if !are_bytes(byte_words) {
+        return HEAD_BYTES;
+    }
+    put_bytes(space, byte_words);
+    if n <= space.len() {
+        return put_mapped(&space[..n], answer);
+    }
+    HEAD_BYTES
+}
+
+fn layout_case(payload: &[u64], space: &mut [u8], answer: &mut [u8]) -> usize {
+    if payload.len() < 1 {
+        return HEAD_BYTES;
+    }
+    let n = payload[0] as usize;
+    if LAYOUT_BYTES < n {
+        return HEAD_BYTES;
+    }
+    let end = 1 + n;
+    if payload.len() < end {
+        return HEAD_BYTES;
+    }
+    layout(&payload[1..end], space, answer)
+}
+
 fn answer_op(
     op: u64,
     payload: &[u64],
@@ -277,6 +334,7 @@ fn answer_op(
         1 => table_case(payload, rows, refs, names, witness, answer),
         2 => checker_case(payload, names, answer),
         3 => name_case(payload, names, answer),
+        4 => layout_case(payload, names, answer),
         _ => HEAD_BYTES,
     }
 }

@@ -5,9 +5,6 @@ use lib.ListN.{length}
 use borrow.Author.Needs.{needs}
 use Rattle.transcript.proofs.pass_over.Statement.{statement}
 use Rattle.transcript.proofs.pass_over.Tie as tie
-use Rattle.transcript.proofs.pass_over.Reads as reads
-use Rattle.transcript.proofs.pass_over.Lts as lts
-use Rattle.transcript.proofs.read_words.Reads as read-words-reads
 
 abbrev Inv-loop : tie.InvT-loop
 Inv-loop input₀ payload₀ words left₀ input payload left = (length input ≡ length input₀) × (length payload ≡ length payload₀)
@@ -15,51 +12,39 @@ Inv-loop input₀ payload₀ words left₀ input payload left = (length input �
 abbrev μ-loop : tie.MeasureT-loop
 μ-loop input₀ payload₀ words left₀ input payload left = left
 
--- src/main.rt:45:5
 loop-holds : tie.Need-loop-holds Inv-loop μ-loop
 loop-holds c = search needs
 
--- src/main.rt:46:13
 read-words-requires : tie.Need-read-words-requires Inv-loop μ-loop
 read-words-requires c κs = search needs
 
--- src/main.rt:47:13
 same-length : tie.Need-same-length Inv-loop μ-loop
 same-length c = search needs
 
--- src/main.rt:47:13
 same-length-2 : tie.Need-same-length-2 Inv-loop μ-loop
 same-length-2 c = search needs
 
--- src/main.rt:47:13
 returns : tie.Need-returns Inv-loop μ-loop
 returns c = search needs
 
--- src/main.rt:49:9
 sub-left : tie.Need-sub-left Inv-loop μ-loop
 sub-left c = search needs
 
--- src/main.rt:45:5
 loop-less : tie.Need-loop-less Inv-loop μ-loop
 loop-less c = search needs
 
--- src/main.rt:45:5
 loop-again : tie.Need-loop-again Inv-loop μ-loop
 loop-again c = search needs
 
--- src/main.rt:51:5
 read-words-requires-2 : tie.Need-read-words-requires-2 Inv-loop μ-loop
 read-words-requires-2 c κs = search needs
 
--- src/main.rt:43:1
 same-length-3 : tie.Need-same-length-3 Inv-loop μ-loop
 same-length-3 c = search needs
 
--- src/main.rt:43:1
 same-length-4 : tie.Need-same-length-4 Inv-loop μ-loop
 same-length-4 c = search needs
 
--- src/main.rt:43:1
 returns-2 : tie.Need-returns-2 Inv-loop μ-loop
 returns-2 c = search needs
 

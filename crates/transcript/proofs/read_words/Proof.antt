@@ -1,49 +1,37 @@
+-- `transcript::read_words` is safe and ends.
+-- Assumes nothing.
 use lib.Seq.{length-take-le}
 use borrow.Author.Needs.{needs}
 use Rattle.transcript.proofs.read_words.Statement.{statement}
 use Rattle.transcript.proofs.read_words.Tie as tie
-use Rattle.transcript.proofs.read_words.Reads as reads
-use Rattle.transcript.proofs.read_words.Lts as lts
-use Rattle.io.proofs.read_full.Reads as read-full-reads
-use Rattle.transcript.proofs.put_front.Reads as put-front-reads
 
--- src/main.rt:31:9
 returns : tie.Need-returns
 returns c = search needs
 
--- src/main.rt:33:17
 mul-bytes : tie.Need-mul-bytes
 mul-bytes c = search needs
 
--- src/main.rt:35:47
 slice-relend-prefix-read-full : tie.Need-slice-relend-prefix-read-full
 slice-relend-prefix-read-full c = search needs
 
--- src/main.rt:35:47
 slice-aggregate-read-full : tie.Need-slice-aggregate-read-full
 slice-aggregate-read-full c = search (needs, length-take-le)
 
--- src/main.rt:35:13
 read-full-requires : tie.Need-read-full-requires
 read-full-requires c κs = search needs
 
--- src/main.rt:36:9
 put-front-requires : tie.Need-put-front-requires
 put-front-requires c κs = search needs
 
--- src/main.rt:37:9
 same-length : tie.Need-same-length
 same-length c = search needs
 
--- src/main.rt:37:9
 same-length-2 : tie.Need-same-length-2
 same-length-2 c = search needs
 
--- src/main.rt:37:9
 returns-2 : tie.Need-returns-2
 returns-2 c = search needs
 
--- src/main.rt:29:1
 returns-3 : tie.Need-returns-3
 returns-3 c = search needs
 

@@ -1,44 +1,34 @@
+-- `transcript::cases::answer_to` is safe and ends.
+-- Assumes nothing.
 use lib.Seq.{length-take-le}
 use borrow.Author.Needs.{needs}
 use Rattle.transcript.proofs.cases.answer_to.Statement.{statement}
 use Rattle.transcript.proofs.cases.answer_to.Tie as tie
-use Rattle.transcript.proofs.cases.answer_to.Reads as reads
-use Rattle.transcript.proofs.cases.answer_to.Lts as lts
-use Rattle.transcript.proofs.cases.answer_op.Reads as answer-op-reads
 
--- src/cases.rt:290:30
 slice-aggregate-answer-op : tie.Need-slice-aggregate-answer-op
 slice-aggregate-answer-op c = search (needs, length-take-le)
 
--- src/cases.rt:290:9
 answer-op-requires : tie.Need-answer-op-requires
 answer-op-requires c κs = search needs
 
--- src/cases.rt:290:9
 same-length : tie.Need-same-length
 same-length c = search needs
 
--- src/cases.rt:290:9
 same-length-2 : tie.Need-same-length-2
 same-length-2 c = search needs
 
--- src/cases.rt:290:9
 same-length-3 : tie.Need-same-length-3
 same-length-3 c = search needs
 
--- src/cases.rt:290:9
 same-length-4 : tie.Need-same-length-4
 same-length-4 c = search needs
 
--- src/cases.rt:290:9
 same-length-5 : tie.Need-same-length-5
 same-length-5 c = search needs
 
--- src/cases.rt:290:9
 returns : tie.Need-returns
 returns c = search needs
 
--- src/cases.rt:279:1
 returns-2 : tie.Need-returns-2
 returns-2 c = search needs
 

@@ -2,12 +2,9 @@
 -- Assumes nothing.
 use Prim.Native.Nat.{_≤_, _-_}
 use lib.ListN.{length}
-use native.Mathlib.Omega.{arith}
 use borrow.Author.Needs.{needs}
 use Rattle.transcript.proofs.cases.are_bytes.Statement.{statement}
 use Rattle.transcript.proofs.cases.are_bytes.Tie as tie
-use Rattle.transcript.proofs.cases.are_bytes.Reads as reads
-use Rattle.transcript.proofs.cases.are_bytes.Lts as lts
 
 abbrev Inv-loop : tie.InvT-loop
 Inv-loop words i₀ i = i ≤ length words
@@ -15,35 +12,27 @@ Inv-loop words i₀ i = i ≤ length words
 abbrev μ-loop : tie.MeasureT-loop
 μ-loop words i₀ i = length words - i
 
--- src/cases.rt:47:5
 loop-holds : tie.Need-loop-holds Inv-loop μ-loop
 loop-holds c = search needs
 
--- src/cases.rt:48:18
 mul-if1 : tie.Need-mul-if1 Inv-loop μ-loop
 mul-if1 c = search needs
 
--- src/cases.rt:48:18
 shared-slice-read-if1 : tie.Need-shared-slice-read-if1 Inv-loop μ-loop
 shared-slice-read-if1 c = search needs
 
--- src/cases.rt:49:13
 returns : tie.Need-returns Inv-loop μ-loop
 returns c = search needs
 
--- src/cases.rt:51:9
 add-i : tie.Need-add-i Inv-loop μ-loop
 add-i c = search needs
 
--- src/cases.rt:47:5
 loop-less : tie.Need-loop-less Inv-loop μ-loop
 loop-less c = search needs
 
--- src/cases.rt:47:5
 loop-again : tie.Need-loop-again Inv-loop μ-loop
 loop-again c = search needs
 
--- src/cases.rt:45:1
 returns-2 : tie.Need-returns-2 Inv-loop μ-loop
 returns-2 c = search needs
 

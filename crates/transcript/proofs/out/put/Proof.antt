@@ -3,13 +3,9 @@
 use Prim.Native.Nat.{_≤_, _-_}
 use mathlib.Core.Path.{_≡_}
 use lib.ListN.{length}
-use native.Mathlib.Omega.{arith}
 use borrow.Author.Needs.{needs}
 use Rattle.transcript.proofs.out.put.Statement.{statement}
 use Rattle.transcript.proofs.out.put.Tie as tie
-use Rattle.transcript.proofs.out.put.Reads as reads
-use Rattle.transcript.proofs.out.put.Lts as lts
-use Rattle.transcript.proofs.out.low_byte.Reads as low-byte-reads
 
 abbrev Inv-loop : tie.InvT-loop
 Inv-loop answer₀ at word rest₀ i₀ answer rest i = (length answer ≡ length answer₀) × (i ≤ 8)
@@ -17,55 +13,42 @@ Inv-loop answer₀ at word rest₀ i₀ answer rest i = (length answer ≡ lengt
 abbrev μ-loop : tie.MeasureT-loop
 μ-loop answer₀ at word rest₀ i₀ answer rest i = 8 - i
 
--- src/out.rt:13:9
 returns : tie.Need-returns Inv-loop μ-loop
 returns c = search needs
 
--- src/out.rt:15:8
 sub-if2 : tie.Need-sub-if2 Inv-loop μ-loop
 sub-if2 c = search needs
 
--- src/out.rt:16:9
 returns-2 : tie.Need-returns-2 Inv-loop μ-loop
 returns-2 c = search needs
 
--- src/out.rt:19:5
 loop-holds : tie.Need-loop-holds Inv-loop μ-loop
 loop-holds c = search needs
 
--- src/out.rt:20:26
 low-byte-requires : tie.Need-low-byte-requires Inv-loop μ-loop
 low-byte-requires c κs = search needs
 
--- src/out.rt:20:16
 add-answer : tie.Need-add-answer Inv-loop μ-loop
 add-answer c = search needs
 
--- src/out.rt:20:9
 slice-write-answer : tie.Need-slice-write-answer Inv-loop μ-loop
 slice-write-answer c = search needs
 
--- src/out.rt:19:9
 add-i : tie.Need-add-i Inv-loop μ-loop
 add-i c = search needs
 
--- src/out.rt:19:5
 loop-less : tie.Need-loop-less Inv-loop μ-loop
 loop-less c = search needs
 
--- src/out.rt:19:5
 loop-again : tie.Need-loop-again Inv-loop μ-loop
 loop-again c = search needs
 
--- src/out.rt:23:5
 add-result : tie.Need-add-result Inv-loop μ-loop
 add-result c = search needs
 
--- src/out.rt:11:1
 same-length : tie.Need-same-length Inv-loop μ-loop
 same-length c = search needs
 
--- src/out.rt:11:1
 returns-3 : tie.Need-returns-3 Inv-loop μ-loop
 returns-3 c = search needs
 
