@@ -1,5 +1,7 @@
 pub mod Apply
+pub mod Ascii
 pub mod Strings
+pub mod Sweep
 pub mod Parts
 pub mod Runs
 pub mod Reads

@@ -16,9 +16,9 @@ use Rattle.fields.specs.Parts.{dash, partsOf}
 use Rattle.datalayout.specs.declared.answer.Answer.the-variants.{Taken, BadEncoding, Refused}
 use Rattle.datalayout.specs.Strings.{asciiUpTo, takenWith, refusedWith, specsFrom, mapped}
 use Rattle.datalayout.specs.Promises.{joined, offset, Each, Accepted, RefusedAt, NotAsciiAt, Sound}
+use Rattle.datalayout.proofs.Laws.Ascii.{asciiUpTo-before, asciiUpTo-at}
 use Rattle.datalayout.proofs.Laws.Parts.{joined-partsOf, partsOf-clean, partsOf-stands}
-use Rattle.datalayout.proofs.Laws.Runs.{specsFrom-passes, specsFrom-of-passes, specsFrom-failing}
-use Rattle.datalayout.proofs.Laws.Runs.{specsFrom-encoded, asciiUpTo-before, asciiUpTo-at}
+use Rattle.datalayout.proofs.Laws.Runs.{specsFrom-passes, specsFrom-of-passes, specsFrom-failing, specsFrom-encoded}
 use Rattle.datalayout.proofs.Laws.Sound.{default-sound, specsFrom-sound}
 
 -- the specs are those of the string: they join to it, and none has a dash

@@ -1,12 +1,13 @@
 // "Non-ASCII anywhere: 21 first, place its first such byte. Split at `-`; specs in order; later ones override."
 ghost use mathlib.Core.Path.{_≡_};
-ghost use Rattle.layout.specs.Defaults.{defaultLayout};
-ghost use Rattle.spec.specs.Edition.{specsOf};
-ghost use Rattle.datalayout.specs.Strings.{asciiUpTo, specsFrom, mapped};
+ghost use Prim.Native.Nat.{_+_, min};
+ghost use lib.ListN.{drop};
+ghost use Rattle.fields.specs.Parts.{endOf};
+ghost use Rattle.datalayout.specs.declared.answer.Answer.the-variants.{BadEncoding};
+ghost use Rattle.datalayout.specs.Strings.{asciiUpTo, refusedWith, mapped};
 use crate::answer::Answer;
 use crate::apply;
 use crate::apply::Outcome;
-use fields::parts;
 use layout::defaults;
 use layout::record::DataLayout;
 
@@ -18,13 +19,19 @@ pub struct Mapped {
 
 const ASCII_END: u8 = 128;
 
-// The offset of the first byte that is not ASCII, or the length: the Rust's `is_ascii`.
-fn ascii_end(value: &[u8]) -> usize
-    ensures { λ r. ⌜ r ≡ asciiUpTo (now (value .entry)) ⌝ }
+// One search for both: where the part that starts at `from` ends, at `separator` or at the end of the string, or where a byte
+// that is not ASCII stands before that.
+fn ascii_part_end(value: &[u8], from: usize, separator: u8) -> usize
+    ensures { λ r. ⌜ r ≡ min (endOf separator (now (value .entry)) from)
+        (from + asciiUpTo (drop from (now (value .entry)))) ⌝ }
 {
-    let mut i = 0;
+    let mut i = from;
     while i < value.len() {
-        if ASCII_END <= value[i] {
+        let byte = value[i];
+        if byte == separator {
+            return i;
+        }
+        if ASCII_END <= byte {
             return i;
         }
         i += 1;
@@ -32,18 +39,45 @@ fn ascii_end(value: &[u8]) -> usize
     i
 }
 
-// The specs in order, from the default layout. A trailing dash has an empty spec behind it.
-fn map_specs(value: &[u8]) -> Mapped
-    ensures { λ r. ⌜ r ≡ specsFrom defaultLayout 0 (specsOf (now (value .entry))) ⌝ }
+// The offset of the first byte from `from` on that is not ASCII, or the length. The separator is such a byte itself, so that
+// no other is looked for.
+fn ascii_end(value: &[u8], from: usize) -> usize
+    ensures { λ r. ⌜ r ≡ from + asciiUpTo (drop from (now (value .entry))) ⌝ }
+{
+    ascii_part_end(value, from, ASCII_END)
+}
+
+// "21 .., place its first such byte"; "the layout returned with a refusal is the default one".
+fn bad_encoding(at: usize) -> Mapped
+    ensures { λ r. ⌜ r ≡ refusedWith (BadEncoding at) ⌝ }
+{
+    let layout = defaults::default_layout();
+    Mapped {
+        answer: Answer::BadEncoding(at),
+        layout,
+    }
+}
+
+// A data layout string: the Rust's `DataLayout::from_str`, in one sweep. A trailing dash has an empty spec behind it.
+pub fn from_str(value: &[u8]) -> Mapped
+    ensures { λ r. ⌜ r ≡ mapped (now (value .entry)) ⌝ }
 {
     let mut layout = defaults::default_layout();
     let mut at = 0;
     loop {
-        let end = parts::part_end(value, at, b'-');
+        let end = ascii_part_end(value, at, b'-');
+        if end < value.len() && ASCII_END <= value[end] {
+            return bad_encoding(end);
+        }
         let read = spec::spec::read_spec(&value[at..end]);
         let applied = apply::apply(layout, read);
         let outcome = applied.outcome;
         if let Outcome::Refused(fault) = outcome {
+            // "21 first": the spec's refusal is kept back until the rest of the string is seen to be ASCII.
+            let bad = ascii_end(value, end);
+            if bad < value.len() {
+                return bad_encoding(bad);
+            }
             let unchanged = defaults::default_layout();
             return Mapped {
                 answer: Answer::Refused(fault, at),
@@ -59,19 +93,4 @@ fn map_specs(value: &[u8]) -> Mapped
         }
         at = end + 1;
     }
-}
-
-// A data layout string: the Rust's `DataLayout::from_str`.
-pub fn from_str(value: &[u8]) -> Mapped
-    ensures { λ r. ⌜ r ≡ mapped (now (value .entry)) ⌝ }
-{
-    let end = ascii_end(value);
-    if end < value.len() {
-        let layout = defaults::default_layout();
-        return Mapped {
-            answer: Answer::BadEncoding(end),
-            layout,
-        };
-    }
-    map_specs(value)
 }

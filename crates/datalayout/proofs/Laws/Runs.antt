@@ -1,20 +1,17 @@
--- Laws of a run of specs: what its answer says of each of them, and the ASCII scan.
+-- Laws of a run of specs: what its answer says of each of them.
 -- Assumes nothing.
 use mathlib.Core.Path.{_≡_, refl, sym, ap, _∙_}
-use mathlib.Core.Bool.{Bool, true, false, cond}
 use mathlib.Core.List.{List, [], _∷_, _++_}
-use Prim.Native.Nat.{ℕ, zero, suc, _+_, _≤_, _<_}
+use Prim.Native.Nat.{ℕ, _+_}
 use native.Mathlib.Omega.{arith}
-use lib.Dec.{ltb}
-use lib.ListN.{length, getD}
-use borrow.Author.Tests.{ltb-true, ltb-false}
+use lib.ListN.{length}
 use Rattle.layout.specs.declared.record.DataLayout.{DataLayout}
 use Rattle.fields.specs.declared.numbers.Fault.{Fault}
 use Rattle.datalayout.specs.declared.answer.Answer.the-variants.{Taken, BadEncoding, Refused}
 use Rattle.datalayout.specs.declared.apply.Outcome.{Outcome}
 use Rattle.datalayout.specs.declared.apply.Outcome.the-variants.{Done, Refused as Fails}
 use Rattle.datalayout.specs.declared.map.Mapped.{Mapped}
-use Rattle.datalayout.specs.Strings.{asciiUpTo, takenWith, onward, specsFrom}
+use Rattle.datalayout.specs.Strings.{takenWith, onward, specsFrom}
 use Rattle.datalayout.specs.Promises.{after, offset, Passes}
 
 pub specsFrom-passes : (specs : List (List ℕ)) (layout : DataLayout) (place : ℕ) → specsFrom layout place specs .answer ≡ Taken
@@ -99,35 +96,3 @@ specsFrom-encoded (spec ∷ specs) layout place at h =
     go : (rest : Mapped) (o : Outcome) → onward o place rest .answer ≡ BadEncoding at → (rest .answer ≡ BadEncoding at → ⊥) → ⊥
     go rest Done t later = later t
     go rest (Fails fault) t later = let z : _≡_ {A = ℕ} 0 1 = cc in omega arith
-
-pub asciiUpTo-le : (s : List ℕ) → asciiUpTo s ≤ length s
-unfolding asciiUpTo
-asciiUpTo-le [] = omega arith
-asciiUpTo-le (byte ∷ bytes) = go (ltb byte 128) (asciiUpTo-le bytes)
-  where
-    go : (t : Bool) → asciiUpTo bytes ≤ length bytes → cond t (suc (asciiUpTo bytes)) 0 ≤ suc (length bytes)
-    go true h = omega arith
-    go false h = omega arith
-
-pub asciiUpTo-before : (s : List ℕ) (i : ℕ) → i < asciiUpTo s → getD s i 0 < 128
-unfolding asciiUpTo
-asciiUpTo-before [] i lt = absurd (omega arith)
-asciiUpTo-before (byte ∷ bytes) i lt = go (ltb byte 128) refl i lt (λ j h. asciiUpTo-before bytes j h)
-  where
-    go : (t : Bool) → ltb byte 128 ≡ t → (i : ℕ) → i < cond t (suc (asciiUpTo bytes)) 0
-        → ((j : ℕ) → j < asciiUpTo bytes → getD bytes j 0 < 128)
-        → getD (byte ∷ bytes) i 0 < 128
-    go true e zero lt later = ltb-true byte 128 e
-    go true e (suc j) lt later = later j (omega arith)
-    go false e i lt later = absurd (omega arith)
-
-pub asciiUpTo-at : (s : List ℕ) → asciiUpTo s < length s → 128 ≤ getD s (asciiUpTo s) 0
-unfolding asciiUpTo
-asciiUpTo-at [] lt = absurd (omega arith)
-asciiUpTo-at (byte ∷ bytes) lt = go (ltb byte 128) refl lt (λ h. asciiUpTo-at bytes h)
-  where
-    go : (t : Bool) → ltb byte 128 ≡ t → cond t (suc (asciiUpTo bytes)) 0 < suc (length bytes)
-        → (asciiUpTo bytes < length bytes → 128 ≤ getD bytes (asciiUpTo bytes) 0)
-        → 128 ≤ getD (byte ∷ bytes) (cond t (suc (asciiUpTo bytes)) 0) 0
-    go true e h later = later (omega arith)
-    go false e h later = ltb-false byte 128 e

@@ -1,15 +1,12 @@
--- Laws of specs/Strings.antt.
---     asciiUpTo-..      one for each way through a turn of `ascii_end`
---     specsFrom-..      one for each way through a turn of `map_specs`
+-- Laws of `specsFrom`, one for each way through a spec: the spec that ends at the next dash is the first of the parts that are left,
+-- so that what it makes of the layout is where the others start.
 -- Assumes nothing.
 use mathlib.Core.Path.{_≡_}
 use mathlib.Core.List.{List}
-use Prim.Native.Nat.{ℕ, suc, _+_, _-_, _≤_, _<_}
-use native.Mathlib.Numerals.{add-one}
+use Prim.Native.Nat.{ℕ, _+_, _-_, _≤_}
 use native.Mathlib.Omega.{arith}
-use lib.ListN.{length, getD, take, drop, length-drop}
-use lib.Seq.{drop-cons, drop-length, length-take-le}
-use borrow.Author.Tests.{lt-ltb, le-ltb}
+use lib.ListN.{length, take, drop, length-drop}
+use lib.Seq.{length-take-le}
 use Rattle.layout.specs.declared.record.DataLayout.{DataLayout}
 use Rattle.fields.specs.declared.numbers.Fault.{Fault}
 use Rattle.fields.specs.Parts.{dash, partsOf, endOf}
@@ -20,20 +17,7 @@ use Rattle.datalayout.specs.declared.apply.Applied.{Applied}
 use Rattle.datalayout.specs.declared.apply.Outcome.the-variants.{Done, Refused as Fails}
 use Rattle.datalayout.specs.declared.map.Mapped.{Mapped}
 use Rattle.datalayout.specs.Apply.{applied}
-use Rattle.datalayout.specs.Strings.{asciiUpTo, takenWith, refusedWith, specsFrom}
-
-module _ (s : List ℕ) (i : ℕ) where
-  pub asciiUpTo-hit : i < length s → 128 ≤ getD s i 0 → asciiUpTo (drop i s) ≡ 0
-  unfolding asciiUpTo
-  asciiUpTo-hit lt h = rw (drop-cons s i 0, le-ltb (getD s i 0) 128 h)
-
-  pub asciiUpTo-miss : i < length s → getD s i 0 < 128 → asciiUpTo (drop i s) ≡ suc (asciiUpTo (drop (i + 1) s))
-  unfolding asciiUpTo
-  asciiUpTo-miss lt h = rw (drop-cons s i 0, lt-ltb (getD s i 0) 128 h, add-one)
-
-  pub asciiUpTo-end : i ≡ length s → asciiUpTo (drop i s) ≡ 0
-  unfolding asciiUpTo
-  asciiUpTo-end e = rw (e, drop-length s)
+use Rattle.datalayout.specs.Strings.{takenWith, refusedWith, specsFrom}
 
 -- a turn at the spec from `at` to `end`, which made `next` of the layout
 module _ (layout : DataLayout) (s : List ℕ) (at end : ℕ) (in-s : at ≤ length s) (is : end ≡ endOf dash s at) (next : Applied)
