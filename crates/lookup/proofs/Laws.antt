@@ -14,7 +14,7 @@ use Rattle.table.specs.declared.row.Row.{Row}
 use Rattle.table.specs.Rows.{entryRoom, rowAt}
 use Rattle.lookup.specs.declared.Stretch.{Stretch}
 use Rattle.lookup.specs.declared.Stretch.the-variants.{Named, Unnamed}
-use Rattle.lookup.specs.Names.{isNamedIn, stretchIn, stretchOf, IsName}
+use Rattle.lookup.specs.Names.{isNamedIn, stretchIn, stretchOf, isNamed, startOf, lengthOf, IsName}
 
 -- "the row is not whole in the lent rows"
 pub stretchOf-outside : (rows : List ℕ) (bytes e room : ℕ) → room ≡ entryRoom (length rows) → room ≤ e → Unnamed ≡ stretchOf rows bytes e
@@ -84,3 +84,32 @@ IsName-of-found rows e names at start end is = record { bytes = rw (← is); blo
 pub IsName-of-none : (rows : List ℕ) (e : ℕ) (names : List ℕ) (at : ℕ × ℕ)
     → Unnamed ≡ stretchOf rows (length names) e → IsName rows e names at [] at
 IsName-of-none rows e names at is = record { bytes = rw (← is); block = refl; offset = rw (← is) (omega arith) }
+
+-- what the answer to `has_name` tells of the stretch: a name is where the row says, and without one start and length are 0
+module _ (whole : Bool) (row : Row) (bytes : ℕ) where
+  abbrev said : Bool → Stretch
+  said b = cond b (Named (row .start) (row .start + row .len)) Unnamed
+
+  said-named : (b : Bool) → isNamed (said b) ≡ true → said b ≡ said true
+  said-named true h = refl
+  said-named false h = let z : _≡_ {A = ℕ} 0 1 = ap (λ (t : Bool). cond t 1 0) h in absurd (omega arith)
+
+  said-none : (b : Bool) → isNamed (said b) ≡ false → said b ≡ said false
+  said-none true h = let z : _≡_ {A = ℕ} 1 0 = ap (λ (t : Bool). cond t 1 0) h in absurd (omega arith)
+  said-none false h = refl
+
+  pub startOf-named : isNamed (stretchIn whole row bytes) ≡ true → startOf (stretchIn whole row bytes) ≡ row .start
+  unfolding stretchIn
+  startOf-named h = ap startOf (said-named (isNamedIn whole row bytes) h)
+
+  pub lengthOf-named : isNamed (stretchIn whole row bytes) ≡ true → lengthOf (stretchIn whole row bytes) ≡ row .len
+  unfolding stretchIn
+  lengthOf-named h = ap lengthOf (said-named (isNamedIn whole row bytes) h) ∙ omega arith
+
+  pub startOf-none : isNamed (stretchIn whole row bytes) ≡ false → startOf (stretchIn whole row bytes) ≡ 0
+  unfolding stretchIn
+  startOf-none h = ap startOf (said-none (isNamedIn whole row bytes) h)
+
+  pub lengthOf-none : isNamed (stretchIn whole row bytes) ≡ false → lengthOf (stretchIn whole row bytes) ≡ 0
+  unfolding stretchIn
+  lengthOf-none h = ap lengthOf (said-none (isNamedIn whole row bytes) h)

@@ -1,7 +1,7 @@
 -- Laws of specs/Puts.antt and of the runs of specs/Words.antt.
 --     Behind-then, Behind-first     a run behind a run; a run behind nothing
 --     Numbers-done                  numbers behind their count
---     Layout-done                   the five parts, one behind the other
+--     Layout-done, Puts-unique      the five parts, one behind the other; no second answer fits
 --     Filled                        the invariant of a loop over rows, of any kind and width: the first i lie behind their count
 -- Assumes nothing.
 use mathlib.Core.Path.{_≡_, refl, sym, ap, subst, _∙_}
@@ -136,3 +136,7 @@ Layout-done h v w s t p l₀ l₁ l₂ l₃ l₄ l₅ a b c d is-head nine head 
       bounded = omega (arith, widths .bounded, spaces .bounded, types .bounded, pointers .bounded);
       content = Behind-first (h ++ w ++ s ++ t ++ p) l₀ l₅ whole;
     }
+
+-- no second answer fits
+pub Puts-unique : (words b l k : List ℕ) (m n : ℕ) → Puts words b m l → Puts words b n k → (m ≡ n) × (l ≡ k)
+Puts-unique words b l k m n h g = (h .counts ∙ sym (g .counts), h .content ∙ sym (g .content))
