@@ -50,8 +50,7 @@
  * the rank of every entry that refers to it. The rest of each is 0. Refused: all four are 0, but that refusal 19
  * leaves its ring at the front of `witness`.
  *
- * Whatever the buffers hold before, it is overwritten. A buffer that is too short is refusal 9, and never
- * written past.
+ * What the four hold before is overwritten. Where one of them is too short for the table, that is refusal 9.
  */
 void reckonferry_read_table(
     const uint64_t *restrict words,

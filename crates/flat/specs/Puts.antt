@@ -1,8 +1,8 @@
 -- A run of words that is laid over a lent buffer.
---     Behind words at before after      after is before with the words behind the first `at`, in whatever buffer these were laid over
+--     Behind words at before after            after is before with the words behind the first `at`, over whatever stood there
 --     Part words most at before end after     the same, and the words, at most so many, end at `end`
---     maxWords                          no layout has more words
---     Puts words before count after     after is before with the words over its front, and the count is theirs
+--     maxWords                                no layout has more words
+--     Puts words before count after           after is before with the words over its front, and the count is theirs
 -- Assumes nothing.
 use mathlib.Core.Path.{_≡_}
 use mathlib.Core.List.{List, _++_}
@@ -19,7 +19,8 @@ pub record Part (words : List ℕ) (most at : ℕ) (before : List ℕ) (end : �
   pub bounded : end ≤ at + most
   pub content : Behind words at before after
 
--- the nine words of the head, 16 widths and 16 spaces with their counts, 64 type rows of four words and 32 pointer rows of five with theirs
+-- the nine words of the head; 16 widths, 16 spaces, 64 type rows of four words and 32 pointer rows of five, each list
+-- with its count
 abbrev pub maxWords : ℕ
 maxWords = 9 + 17 + 17 + 257 + 161
 

@@ -1,5 +1,6 @@
--- docs/DECISIONS.md, "The library to link": the layout record as flat words, in the order of a transcript's layout. Alignments are in bits.
--- A record's numbers and rows are its first `count`, or as many as there is room for; their count is written before them.
+-- docs/DECISIONS.md, "The library to link": the layout record as flat words, in the order of a transcript's layout, whose
+-- sentences are quoted. Alignments are in bits. A record's numbers and rows are its first `count`, or all that the room has;
+-- how many they are is written before them.
 --     layoutWords layout     the words: 461 at most
 -- Assumes nothing.
 use mathlib.Core.List.{List, [], _∷_, _++_}
@@ -12,7 +13,8 @@ use Rattle.layout.specs.declared.record.Endian.the-variants.{Big, Little}
 use Rattle.layout.specs.declared.record.MaybeAlign.{MaybeAlign}
 use Rattle.layout.specs.declared.record.MaybeAlign.the-variants.{Unspecified, Of}
 use Rattle.layout.specs.declared.record.FunctionPointerAlign.{FunctionPointerAlign}
-use Rattle.layout.specs.declared.record.FunctionPointerAlign.the-variants.{Unspecified as AnyFunction, Independent, MultipleOfFunctionAlign}
+use Rattle.layout.specs.declared.record.FunctionPointerAlign.the-variants.{Unspecified as AnyFunction, Independent}
+use Rattle.layout.specs.declared.record.FunctionPointerAlign.the-variants.{MultipleOfFunctionAlign}
 use Rattle.layout.specs.declared.record.Mangling.{Mangling}
 use Rattle.layout.specs.declared.record.Mangling.the-variants.{Unspecified as AnyMangling, Elf, Mips, Macho}
 use Rattle.layout.specs.declared.record.Mangling.the-variants.{WindowsX86Coff, WindowsCoff, XCoff}
@@ -79,8 +81,8 @@ pointerWords row =
     ∷ row .«index_size»
     ∷ []
 
--- the nine words before the first count: "0 big or 1 little endian; stack alignment ..; program, global and alloca spaces; aggregate
--- alignment field in bits; function pointer alignment kind .. and its bits or 0; mangling"
+-- the nine words before the first count: "0 big or 1 little endian; stack alignment ..; program, global and alloca spaces;
+-- aggregate alignment field in bits; function pointer alignment kind .. and its bits or 0; mangling"
 abbrev pub headWords : DataLayout → List ℕ
 headWords l =
     endianWord (l .endianness)

@@ -1,6 +1,6 @@
--- docs/DECISIONS.md, "The library to link": what the exported functions leave in the buffers that a C caller lends. What they mean is
--- said below them: `Reads` and `wholeOf` of ferry, `checked` of checker, `hasName` and `stretchOf` of lookup, `mapped` and `refusalOf`
--- of datalayout, `Puts` and `layoutWords` of flat.
+-- docs/DECISIONS.md, "The library to link": what the exported functions leave in the buffers that a C caller lends. What it
+-- means is said in the crates below: `Reads` and `wholeOf` of ferry, `checked` of checker, `hasName` and `stretchOf` of lookup,
+-- `mapped` and `refusalOf` of datalayout, `Puts` and `layoutWords` of flat. The quotations are of a transcript's answers.
 --     answerWords a        an answer of the reader as words;  refusalWords r  one of the layout reader
 --     ReadsTable ..        the outputs of the reader, and its answer over the front of the answer buffer
 --     ReadsLayout ..       the same for a layout string; the layout's words lie over zeros

@@ -70,7 +70,8 @@ module _ {A : Type 0} (words : A → List ℕ) where
     length-runOf : (rows : List A) → length (runOf words rows) ≡ length rows * wide
     unfolding runOf
     length-runOf [] = sym (zero-mul wide)
-    length-runOf (row ∷ rows) = rw (length-append (words row) (runOf words rows), each row, length-runOf rows, suc-mul) (add-comm wide (length rows * wide))
+    length-runOf (row ∷ rows) =
+        rw (length-append (words row) (runOf words rows), each row, length-runOf rows, suc-mul) (add-comm wide (length rows * wide))
 
     -- rows of the room, of which `count` are written, from `at` on
     module _ (rows : List A) (count at : ℕ) (before : List ℕ) where

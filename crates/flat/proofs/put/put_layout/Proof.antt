@@ -41,7 +41,8 @@ returns c =
     let head = widths .before .before .before .before in
     let words = head .before .before .before in
     let layout = words .before .before .before .before .before .before .args .layout in
-    Layout-done (headWords layout) _ _ _ _ _ _ _ _ _ _ _ _ _ _ _ (words .head-words .ensures) refl (head .put-behind .ensures) (widths .put-numbers .ensures) (spaces .put-numbers2 .ensures)
+    Layout-done (headWords layout) _ _ _ _ _ _ _ _ _ _ _ _ _ _ _ (words .head-words .ensures) refl
+    (head .put-behind .ensures) (widths .put-numbers .ensures) (spaces .put-numbers2 .ensures)
     (types .put-types .ensures) (pointers .put-pointers .ensures)
 
 pub put-layout-spec : {M : Type 1} → statement M

@@ -56,7 +56,8 @@ returns c =
     let first = second .before .before .before .before .before in
     let kept = first .before .before .before in
     let start = kept .before .before .before in
-    Numbers-done (start .args .numbers .items) (start .args .numbers .count) (kept .least .result) 17 (start .args .at) _ (start .args .out .now) _ _
+    Numbers-done (start .args .numbers .items) (start .args .numbers .count) (kept .least .result) 17 (start .args .at) _
+    (start .args .out .now) _ _
     (omega (arith, room start, kept .least .ensures)) (omega arith) (omega (arith, kept .least .ensures)) (first .put-behind .ensures)
     (second .put-behind2 .ensures)
 

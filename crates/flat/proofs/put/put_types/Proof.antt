@@ -79,8 +79,8 @@ loop-again c =
     let at-loop = row .before .before .before in
     let kept = at-loop .before .before .before .before .before .before in
     let start = kept .before .before .before in
-    Filled-more typeWords 4 (λ row. refl) (start .args .specs .rows) (kept .least .result) (start .args .at + 1) _ (at-loop .loop .i) _ _ _
-    (at-loop .loop .out) _ (at-loop .loop .inv) (omega arith) (omega (arith, room start, kept .least .ensures)) (omega arith)
+    Filled-more typeWords 4 (λ row. refl) (start .args .specs .rows) (kept .least .result) (start .args .at + 1) _
+    (at-loop .loop .i) _ _ _ (at-loop .loop .out) _ (at-loop .loop .inv) (omega arith) (omega (arith, room start, kept .least .ensures)) (omega arith)
     (row .type-words .ensures) (omega arith) (put .put-behind2 .ensures)
 
 add-result : tie.Need-add-result Inv-loop μ-loop
