@@ -7,4 +7,3 @@ pub mod Values
 pub mod Held
 pub mod Putting
 pub mod Promises
-pub mod Samples
