@@ -1,7 +1,12 @@
 // The transcript program: cases on standard input, each `op`, `length` and so many words; for each, on standard output, the answer in the
 // same form. Before a table is read every lent output is filled with one word, so that an output left unwritten shows.
 mod cases;
+mod checker_op;
+mod layout_op;
+mod name_op;
 mod out;
+mod table_op;
+mod told;
 
 use cases::NAMES;
 use cases::REFERENCES;

@@ -18,7 +18,9 @@ record Kept (A B C D E F G : Type 0) : Type 0 where
 
 abbrev Inv-loop : tie.InvT-loop
 Inv-loop input₀ payload₀ rows₀ refs₀ names₀ witness₀ answer₀ left₀ input payload rows refs names witness answer left =
-    Kept (length input ≡ length input₀) (length payload ≡ length payload₀) (length rows ≡ length rows₀) (length refs ≡ length refs₀) (length names ≡ length names₀) (length witness ≡ length witness₀) (length answer ≡ length answer₀)
+    Kept (length input ≡ length input₀) (length payload ≡ length payload₀) (length rows ≡ length rows₀)
+    (length refs ≡ length refs₀) (length names ≡ length names₀) (length witness ≡ length witness₀)
+    (length answer ≡ length answer₀)
 
 abbrev μ-loop : tie.MeasureT-loop
 μ-loop input₀ payload₀ rows₀ refs₀ names₀ witness₀ answer₀ left₀ input payload rows refs names witness answer left =

@@ -1,9 +1,9 @@
--- `transcript::cases::name` is safe and ends.
+-- `transcript::checker_op::checker` is safe and ends.
 -- Assumes nothing.
 use lib.Seq.{length-take-le}
 use borrow.Author.Needs.{needs}
-use Rattle.transcript.proofs.cases.name.Statement.{statement}
-use Rattle.transcript.proofs.cases.name.Tie as tie
+use Rattle.transcript.proofs.checker_op.checker.Statement.{statement}
+use Rattle.transcript.proofs.checker_op.checker.Tie as tie
 
 are-bytes-requires : tie.Need-are-bytes-requires
 are-bytes-requires c κs = search needs
@@ -14,14 +14,20 @@ returns c = search needs
 put-bytes-requires : tie.Need-put-bytes-requires
 put-bytes-requires c κs = search needs
 
-slice-reshare-prefix-put-name : tie.Need-slice-reshare-prefix-put-name
-slice-reshare-prefix-put-name c = search needs
+slice-reshare-prefix-check : tie.Need-slice-reshare-prefix-check
+slice-reshare-prefix-check c = search needs
 
-slice-aggregate-put-name : tie.Need-slice-aggregate-put-name
-slice-aggregate-put-name c = search (needs, length-take-le)
+slice-aggregate-check : tie.Need-slice-aggregate-check
+slice-aggregate-check c = search (needs, length-take-le)
 
-put-name-requires : tie.Need-put-name-requires
-put-name-requires c κs = search needs
+check-requires : tie.Need-check-requires
+check-requires c κs = search needs
+
+cast-put : tie.Need-cast-put
+cast-put c = search needs
+
+put-requires : tie.Need-put-requires
+put-requires c κs = search needs
 
 same-length : tie.Need-same-length
 same-length c = search needs
@@ -38,16 +44,18 @@ same-length-3 c = search needs
 returns-3 : tie.Need-returns-3
 returns-3 c = search needs
 
-pub name-spec : {M : Type 1} → statement M
-name-spec =
+pub checker-spec : {M : Type 1} → statement M
+checker-spec =
     tie.close
     (tie.spec
     are-bytes-requires
     returns
     put-bytes-requires
-    slice-reshare-prefix-put-name
-    slice-aggregate-put-name
-    put-name-requires
+    slice-reshare-prefix-check
+    slice-aggregate-check
+    check-requires
+    cast-put
+    put-requires
     same-length
     same-length-2
     returns-2

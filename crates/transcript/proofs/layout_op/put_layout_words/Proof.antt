@@ -1,9 +1,9 @@
--- `transcript::cases::put_layout_words` is safe and ends.
+-- `transcript::layout_op::put_layout_words` is safe and ends.
 -- Assumes nothing.
 use lib.Seq.{length-take-le}
 use borrow.Author.Needs.{needs}
-use Rattle.transcript.proofs.cases.put_layout_words.Statement.{statement}
-use Rattle.transcript.proofs.cases.put_layout_words.Tie as tie
+use Rattle.transcript.proofs.layout_op.put_layout_words.Statement.{statement}
+use Rattle.transcript.proofs.layout_op.put_layout_words.Tie as tie
 
 slice-aggregate-put-words : tie.Need-slice-aggregate-put-words
 slice-aggregate-put-words c = search (needs, length-take-le)

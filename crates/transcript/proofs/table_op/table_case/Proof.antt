@@ -1,9 +1,9 @@
--- `transcript::cases::table_case` is safe and ends.
+-- `transcript::table_op::table_case` is safe and ends.
 -- Assumes nothing.
 use lib.Seq.{length-take-le}
 use borrow.Author.Needs.{needs}
-use Rattle.transcript.proofs.cases.table_case.Statement.{statement}
-use Rattle.transcript.proofs.cases.table_case.Tie as tie
+use Rattle.transcript.proofs.table_op.table_case.Statement.{statement}
+use Rattle.transcript.proofs.table_op.table_case.Tie as tie
 
 returns : tie.Need-returns
 returns c = search needs

@@ -1,8 +1,8 @@
--- `transcript::cases::name_case` is safe and ends.
+-- `transcript::name_op::name_case` is safe and ends.
 -- Assumes nothing.
 use borrow.Author.Needs.{needs}
-use Rattle.transcript.proofs.cases.name_case.Statement.{statement}
-use Rattle.transcript.proofs.cases.name_case.Tie as tie
+use Rattle.transcript.proofs.name_op.name_case.Statement.{statement}
+use Rattle.transcript.proofs.name_op.name_case.Tie as tie
 
 returns : tie.Need-returns
 returns c = search needs

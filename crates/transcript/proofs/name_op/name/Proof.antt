@@ -1,9 +1,9 @@
--- `transcript::cases::layout` is safe and ends.
+-- `transcript::name_op::name` is safe and ends.
 -- Assumes nothing.
 use lib.Seq.{length-take-le}
 use borrow.Author.Needs.{needs}
-use Rattle.transcript.proofs.cases.layout.Statement.{statement}
-use Rattle.transcript.proofs.cases.layout.Tie as tie
+use Rattle.transcript.proofs.name_op.name.Statement.{statement}
+use Rattle.transcript.proofs.name_op.name.Tie as tie
 
 are-bytes-requires : tie.Need-are-bytes-requires
 are-bytes-requires c κs = search needs
@@ -14,14 +14,14 @@ returns c = search needs
 put-bytes-requires : tie.Need-put-bytes-requires
 put-bytes-requires c κs = search needs
 
-slice-reshare-prefix-put-mapped : tie.Need-slice-reshare-prefix-put-mapped
-slice-reshare-prefix-put-mapped c = search needs
+slice-reshare-prefix-put-name : tie.Need-slice-reshare-prefix-put-name
+slice-reshare-prefix-put-name c = search needs
 
-slice-aggregate-put-mapped : tie.Need-slice-aggregate-put-mapped
-slice-aggregate-put-mapped c = search (needs, length-take-le)
+slice-aggregate-put-name : tie.Need-slice-aggregate-put-name
+slice-aggregate-put-name c = search (needs, length-take-le)
 
-put-mapped-requires : tie.Need-put-mapped-requires
-put-mapped-requires c κs = search needs
+put-name-requires : tie.Need-put-name-requires
+put-name-requires c κs = search needs
 
 same-length : tie.Need-same-length
 same-length c = search needs
@@ -38,16 +38,16 @@ same-length-3 c = search needs
 returns-3 : tie.Need-returns-3
 returns-3 c = search needs
 
-pub layout-spec : {M : Type 1} → statement M
-layout-spec =
+pub name-spec : {M : Type 1} → statement M
+name-spec =
     tie.close
     (tie.spec
     are-bytes-requires
     returns
     put-bytes-requires
-    slice-reshare-prefix-put-mapped
-    slice-aggregate-put-mapped
-    put-mapped-requires
+    slice-reshare-prefix-put-name
+    slice-aggregate-put-name
+    put-name-requires
     same-length
     same-length-2
     returns-2

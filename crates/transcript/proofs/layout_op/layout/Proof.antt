@@ -1,9 +1,9 @@
--- `transcript::cases::checker` is safe and ends.
+-- `transcript::layout_op::layout` is safe and ends.
 -- Assumes nothing.
 use lib.Seq.{length-take-le}
 use borrow.Author.Needs.{needs}
-use Rattle.transcript.proofs.cases.checker.Statement.{statement}
-use Rattle.transcript.proofs.cases.checker.Tie as tie
+use Rattle.transcript.proofs.layout_op.layout.Statement.{statement}
+use Rattle.transcript.proofs.layout_op.layout.Tie as tie
 
 are-bytes-requires : tie.Need-are-bytes-requires
 are-bytes-requires c κs = search needs
@@ -14,20 +14,14 @@ returns c = search needs
 put-bytes-requires : tie.Need-put-bytes-requires
 put-bytes-requires c κs = search needs
 
-slice-reshare-prefix-check : tie.Need-slice-reshare-prefix-check
-slice-reshare-prefix-check c = search needs
+slice-reshare-prefix-put-mapped : tie.Need-slice-reshare-prefix-put-mapped
+slice-reshare-prefix-put-mapped c = search needs
 
-slice-aggregate-check : tie.Need-slice-aggregate-check
-slice-aggregate-check c = search (needs, length-take-le)
+slice-aggregate-put-mapped : tie.Need-slice-aggregate-put-mapped
+slice-aggregate-put-mapped c = search (needs, length-take-le)
 
-check-requires : tie.Need-check-requires
-check-requires c κs = search needs
-
-cast-put : tie.Need-cast-put
-cast-put c = search needs
-
-put-requires : tie.Need-put-requires
-put-requires c κs = search needs
+put-mapped-requires : tie.Need-put-mapped-requires
+put-mapped-requires c κs = search needs
 
 same-length : tie.Need-same-length
 same-length c = search needs
@@ -44,18 +38,16 @@ same-length-3 c = search needs
 returns-3 : tie.Need-returns-3
 returns-3 c = search needs
 
-pub checker-spec : {M : Type 1} → statement M
-checker-spec =
+pub layout-spec : {M : Type 1} → statement M
+layout-spec =
     tie.close
     (tie.spec
     are-bytes-requires
     returns
     put-bytes-requires
-    slice-reshare-prefix-check
-    slice-aggregate-check
-    check-requires
-    cast-put
-    put-requires
+    slice-reshare-prefix-put-mapped
+    slice-aggregate-put-mapped
+    put-mapped-requires
     same-length
     same-length-2
     returns-2
