@@ -11,6 +11,7 @@ use lib.ListN.{length, length-append, length-replicate}
 use borrow.Author.Tests.{leb-true, le-leb}
 use Rattle.laws.proofs.Conjunctions.{and-true}
 use Rattle.table.specs.Buffers.{zeros, padded}
+use Rattle.table.proofs.Laws.Buffers.{padded-none}
 use Rattle.table.specs.Entries.{Entry}
 use Rattle.table.specs.Rows.{rowsOf, refsOf, namesOf, entryRoom}
 use Rattle.table.proofs.Laws.Rows.{length-rowsOf}
@@ -26,7 +27,7 @@ use Rattle.walk.specs.Answers.{paperIn, cycle}
 use Rattle.walk.specs.Resolve.{entriesOf, witnessBy, witnessIn}
 use Rattle.resolve.specs.Formed.{tableFormed}
 use Rattle.resolve.proofs.Promises as walk
-use Rattle.resolve.proofs.Promises.{padded-none, outcome-demand-3}
+use Rattle.resolve.proofs.Promises.{outcome-demand-3}
 use Rattle.ferry.specs.declared.Answer.{Answer}
 use Rattle.ferry.specs.declared.Answer.the-variants.{Accepted, Refused}
 use Rattle.ferry.specs.Answers.{answerBy}

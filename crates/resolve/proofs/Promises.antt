@@ -9,6 +9,8 @@ use Prim.Native.Nat.{ℕ, zero, suc, _+_, _-_, _≤_}
 use native.Mathlib.Omega.{arith}
 use lib.ListN.{length, getD, length-append}
 use Rattle.table.specs.Buffers.{zeros, padded}
+use Rattle.table.specs.Back.{entriesFrom}
+use Rattle.table.proofs.Laws.Buffers.{padded-none}
 use Rattle.ranks.specs.Table.{Table, Passes, Fault, height}
 use Rattle.ranks.specs.Walk.{Answer, Rank, Ring, Bad, resolve, ranksOf}
 use Rattle.ranks.specs.Promises.{Ranked, Means}
@@ -22,7 +24,6 @@ use Rattle.walk.specs.Answers.{Paper, accepted, refused, cycle, paperOf, paperI
 use Rattle.walk.specs.Resolve.{witnessBy, witnessIn, Resolves}
 use Rattle.resolve.specs.Formed.{tableFormed}
 use Rattle.resolve.specs.Promises.{Lowest, Demand3, Determined, Flat}
-use Rattle.resolve.specs.Entries.{entriesFrom}
 use Rattle.resolve.proofs.Laws.Checked.{checked-passes, passes-checked}
 use Rattle.resolve.proofs.Laws.Entries.{holds-tableFormed, holds-unique}
 use Rattle.resolve.proofs.Laws.Reading.{tableFormed-holds}
@@ -41,10 +42,6 @@ getD-padded room xs i = getD-behind xs (room - length xs) i
 length-padded : (room : ℕ) (xs : List ℕ) → length xs ≤ length (padded room xs)
 unfolding padded
 length-padded room xs = simp length-append (omega arith)
-
-pub padded-none : (room : ℕ) → padded room [] ≡ zeros room
-unfolding padded
-padded-none room = let z : room - 0 ≡ room = omega arith in rw z
 
 -- ranks that pass still do with zeros behind them
 passes-padded : (t : Table) (room : ℕ) (ranks : List ℕ) → Passes t ranks → Passes t (padded room ranks)
@@ -142,9 +139,9 @@ flat rows refs names ranks n = (
     λ h.
         let p = checked-passes rows refs names ranks n h in
         let f = tableFormed-holds rows refs names n (p .0) in
-        (entriesFrom rows refs names n 0, f .0, f .1, p .1),
+        (entriesFrom rows refs names 0 n, f .0, f .1, p .1),
     λ s. passes-checked rows refs names ranks n (rw (s .1) at (holds-tableFormed rows refs names (s .0) (s .2))) (s .3),
   ),
-  λ es fs h k len. sym (holds-unique rows refs names es h) ∙ (ap (λ (m : ℕ). entriesFrom rows refs names m 0) len
+  λ es fs h k len. sym (holds-unique rows refs names es h) ∙ (ap (λ (m : ℕ). entriesFrom rows refs names 0 m) len
       ∙ holds-unique rows refs names fs k),
 )

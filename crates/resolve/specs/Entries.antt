@@ -2,17 +2,15 @@
 --     Begins whole part            the list whole begins with part
 --     formedEntry x                the words that x says of itself are well formed;  EachFormed es  of each
 --     Holds rows refs names es     the buffers begin with the flat form of the entries es, each well formed
---     nameBy, entryAt .. e         the name and the entry that row e says
---     entriesFrom .. n 0           the entries that the first n rows say
 -- Assumes nothing.
 use mathlib.Core.Path.{_≡_}
 use mathlib.Core.Bool.{Bool, true}
 use mathlib.Core.List.{List, [], _∷_, _++_}
-use Prim.Native.Nat.{ℕ, zero, suc, _≤_}
-use lib.ListN.{length, take, drop}
-use Rattle.table.specs.Entries.{Name, unnamed, called, Entry}
-use Rattle.table.specs.Rows.{rowAt, rowOf, rowsOf, refsOf, namesOf}
-use Rattle.rules.specs.Lawful.{maxEntries, refsAt}
+use Prim.Native.Nat.{ℕ, _≤_}
+use lib.ListN.{length}
+use Rattle.table.specs.Entries.{Entry}
+use Rattle.table.specs.Rows.{rowOf, rowsOf, refsOf, namesOf}
+use Rattle.rules.specs.Lawful.{maxEntries}
 use Rattle.formed.specs.Form.{formed}
 
 pub record Begins (whole part : List ℕ) : Type 0 where
@@ -34,27 +32,3 @@ pub record Holds (rows refs names : List ℕ) (es : List Entry) : Type 0 where
   pub in-refs : Begins refs (refsOf es)
   pub in-names : Begins names (namesOf es)
   pub each : EachFormed es
-
--- "name words 0 where the eighth is 0"
-abbrev pub nameBy : ℕ → List ℕ → Name
-nameBy zero bytes = unnamed
-nameBy (suc n) bytes = called bytes
-
--- the entry that row e says
-abbrev pub entryAt : List ℕ → List ℕ → List ℕ → ℕ → Entry
-entryAt rows refs names e =
-    let row = rowAt rows e in
-    record {
-      form = record {
-        kind = row .kind;
-        number = row .number;
-        flag = row .flag;
-        refs = refsAt rows refs e;
-        name = nameBy (row .named) (take (row .len) (drop (row .start) names));
-      };
-    }
-
--- the entries that the rows from e on say, as many as left
-unfoldable pub entriesFrom : List ℕ → List ℕ → List ℕ → ℕ → ℕ → List Entry
-entriesFrom rows refs names zero e = []
-entriesFrom rows refs names (suc left) e = entryAt rows refs names e ∷ entriesFrom rows refs names left (suc e)

@@ -9,14 +9,16 @@ use lib.ListN.{length, getD, take, drop, length-append, length-drop}
 use lib.Seq.{drop-drop, getD-drop, drop-append-seam, take-append-seam}
 use borrow.Author.Tests.{eq-eqb, le-leb}
 use Rattle.table.specs.declared.row.Row.{Row}
-use Rattle.table.specs.Entries.{Entry, Name, unnamed, called, bytesOf, namedOf}
+use Rattle.table.specs.Entries.{Entry, Name, bytesOf, namedOf}
 use Rattle.table.specs.Rows.{rowWords, entryRoom, rowAt, wordsOf, rowOf, placeOf, rowsFrom, rowsOf, refsOf, namesOf}
+use Rattle.table.specs.Back.{nameBy, entryOfRow, entryAt, entriesFrom}
 use Rattle.table.proofs.Laws.Rows.{rowAt-is, length-rowsOf}
+use Rattle.table.proofs.Laws.Back.{name-back}
 use Rattle.rules.specs.Lawful.{maxEntries, refsAt}
 use Rattle.formed.specs.Form.{formed, placed}
 use Rattle.formed.specs.Formed.{rowOk, formedFrom, wellFormed}
 use Rattle.resolve.specs.Formed.{tableFormed}
-use Rattle.resolve.specs.Entries.{Begins, EachFormed, Holds, nameBy, entryAt, entriesFrom}
+use Rattle.resolve.specs.Entries.{Begins, EachFormed, Holds}
 
 -- a buffer that begins, behind fill elements, with a stretch and more
 module _ (fill : ℕ) (l x more : List ℕ) (b : Begins (drop fill l) (x ++ more)) where
@@ -44,10 +46,6 @@ placed-is c fill l f = rw (eq-eqb (placeOf c fill) (placeOf c fill) refl, le-leb
 pub formed-places : (a b c d : ℕ) (x : Entry) → formed (rowOf a b x) ≡ formed (rowOf c d x)
 unfolding formed
 formed-places a b c d x = refl
-
-name-back : (m : Name) (bytes : List ℕ) → bytes ≡ bytesOf m → nameBy (namedOf m) bytes ≡ m
-name-back unnamed bytes h = refl
-name-back (called b) bytes h = ap called h
 
 -- what the buffers hold from entry e on, behind r references and k name bytes
 pub record Held (rows refs names : List ℕ) (e r k : ℕ) (xs : List Entry) : Type 0 where
@@ -119,22 +117,11 @@ module _ (rows refs names : List ℕ) (e r k : ℕ) (x : Entry) (xs : List Entry
   -- the whole row reads as the entry
   entry-read : entryAt rows refs names e ≡ x
   entry-read =
-      sym (ap (λ (w : Row). says w) row-reads)
+      sym (ap (λ (w : Row). entryOfRow w refs names) row-reads)
       ∙ (ap (λ (l : List ℕ). made l
       (nameBy (namedOf (x .form .name)) (take (length form-name) (drop (placeOf (length form-name) k) names)))) refs-back
       ∙ ap (λ (m : Name). made form-refs m) (name-back (x .form .name) _ name-read))
     where
-      says : Row → Entry
-      says w = record {
-        form = record {
-          kind = w .kind;
-          number = w .number;
-          flag = w .flag;
-          refs = take (w .count) (drop (w .first) refs);
-          name = nameBy (w .named) (take (w .len) (drop (w .start) names));
-        };
-      }
-
       made : List ℕ → Name → Entry
       made l m = record { form = record { kind = x .form .kind; number = x .form .number; flag = x .form .flag; refs = l; name = m } }
 
@@ -142,7 +129,7 @@ module _ (rows refs names : List ℕ) (e r k : ℕ) (x : Entry) (xs : List Entry
       refs-back = stretch-place (length form-refs) r refs ∙ begun-stretch r refs form-refs (refsOf xs) refs-first
 
 module _ (rows refs names : List ℕ) where
-  entries-read : (xs : List Entry) (e r k : ℕ) → Held rows refs names e r k xs → entriesFrom rows refs names (length xs) e ≡ xs
+  entries-read : (xs : List Entry) (e r k : ℕ) → Held rows refs names e r k xs → entriesFrom rows refs names e (length xs) ≡ xs
   unfolding entriesFrom
   entries-read [] e r k h = refl
   entries-read (x ∷ xs) e r k h =
@@ -153,7 +140,7 @@ module _ (rows refs names : List ℕ) where
       )
 
   -- there is no second list of entries
-  pub holds-unique : (es : List Entry) → Holds rows refs names es → entriesFrom rows refs names (length es) 0 ≡ es
+  pub holds-unique : (es : List Entry) → Holds rows refs names es → entriesFrom rows refs names 0 (length es) ≡ es
   holds-unique es h = entries-read es 0 0 0 (record { in-rows = h .in-rows; in-refs = h .in-refs; in-names = h .in-names; each = h .each })
 
   formed-from : (xs : List Entry) (e r k : ℕ) → Held rows refs names e r k xs → formedFrom rows (length refs) (length names)

@@ -15,12 +15,13 @@ use Rattle.kinds.specs.Kinds.{struct, opaquePointer}
 use Rattle.table.specs.declared.row.Row.{Row}
 use Rattle.table.specs.Entries.{Entry, bytesOf, namedOf}
 use Rattle.table.specs.Rows.{rowWords, entryRoom, rowAt, wordsOf, rowOf, placeOf, rowsFrom, refsOf, namesOf}
+use Rattle.table.specs.Back.{nameBy, entryAt, entriesFrom}
 use Rattle.table.proofs.Laws.Rows.{rowAt-is}
 use Rattle.rules.specs.Lawful.{maxEntries, refsAt}
 use Rattle.formed.specs.Form.{formed, placed, numberForm, flagForm, countForm, namedForm}
 use Rattle.formed.specs.Formed.{rowOk, formedFrom, wellFormed}
 use Rattle.resolve.specs.Formed.{tableFormed}
-use Rattle.resolve.specs.Entries.{Begins, Holds, nameBy, entryAt, entriesFrom}
+use Rattle.resolve.specs.Entries.{Begins, Holds}
 use Rattle.resolve.proofs.Laws.Entries.{Held, stretch-place, formed-places}
 
 row-words : (l : List ℕ) (a : ℕ) → a + 8 ≤ length l
@@ -147,7 +148,7 @@ module _ (rows refs names : List ℕ) (e r k : ℕ) (ok : rowOk rows (length ref
 
 module _ (rows refs names : List ℕ) where
   held-from : (left e r k : ℕ) → (e + left) * rowWords ≤ length rows → formedFrom rows (length refs) (length names) left e r k ≡ true
-      → Held rows refs names e r k (entriesFrom rows refs names left e)
+      → Held rows refs names e r k (entriesFrom rows refs names e left)
   unfolding formedFrom entriesFrom rowsFrom refsOf namesOf
   held-from zero e r k inside h = record {
     in-rows = record { rest = drop (e * rowWords) rows; is = refl };
@@ -157,16 +158,16 @@ module _ (rows refs names : List ℕ) where
   }
   held-from (suc left) e r k inside h =
       let p = and-true (rowOk rows (length refs) (length names) e r k) _ h in
-      held-first rows refs names e r k (p .0) (entriesFrom rows refs names left (suc e)) (omega arith)
+      held-first rows refs names e r k (p .0) (entriesFrom rows refs names (suc e) left) (omega arith)
       (held-from left (suc e) (r + rowAt rows e .count) (k + rowAt rows e .len) (omega arith) (p .1))
 
-  entries-length : (left e : ℕ) → length (entriesFrom rows refs names left e) ≡ left
+  entries-length : (left e : ℕ) → length (entriesFrom rows refs names e left) ≡ left
   unfolding entriesFrom
   entries-length zero e = refl
   entries-length (suc left) e = ap suc (entries-length left (suc e))
 
   pub tableFormed-holds : (n : ℕ) → tableFormed rows refs names n ≡ true
-      → (length (entriesFrom rows refs names n 0) ≡ n) × Holds rows refs names (entriesFrom rows refs names n 0)
+      → (length (entriesFrom rows refs names 0 n) ≡ n) × Holds rows refs names (entriesFrom rows refs names 0 n)
   unfolding tableFormed wellFormed
   tableFormed-holds n h =
       let a = and-true (leb n maxEntries) _ h in

@@ -3,17 +3,15 @@
 --     Flat es e r n rows refs names     from entry e on, behind r references and n name bytes, the outputs hold es and then anything
 -- Assumes nothing.
 use mathlib.Core.Path.{_≡_, refl, sym, ap, _∙_}
-use mathlib.Core.Bool.{cond}
 use mathlib.Core.List.{List, [], _∷_, _++_, append-assoc}
 use Prim.Native.Nat.{ℕ, suc, _+_, _*_}
 use native.Mathlib.Omega.{arith}
-use lib.Dec.{eqb}
 use lib.ListN.{length, getD, take, drop, length-append}
 use lib.Seq.{take-append-seam, drop-append-seam, getD-append-add}
 use Rattle.table.specs.declared.row.Row.{Row}
 use Rattle.table.specs.Entries.{Name, unnamed, called, Entry, bytesOf, namedOf}
 use Rattle.table.specs.Rows.{rowWords, rowAt, wordsOf, placeOf, rowOf, rowsFrom, rowsOf, refsOf, namesOf}
-use Rattle.table.specs.Back.{entryOfRow, entryAt, entriesFrom}
+use Rattle.table.specs.Back.{nameBy, entryOfRow, entryAt, entriesFrom}
 use Rattle.table.proofs.Laws.Rows.{rowAt-is}
 
 pub rowAt-laid : (front : List ℕ) (r : Row) (rest : List ℕ) (e : ℕ) → length front ≡ e * rowWords
@@ -31,7 +29,7 @@ stretch-back : (front x rest : List ℕ) → take (length x) (drop (placeOf (len
 stretch-back front [] rest = refl
 stretch-back front (a ∷ x) rest = rw (drop-append-seam front (a ∷ (x ++ rest)), take-append-seam x rest)
 
-name-back : (n : Name) (bytes : List ℕ) → bytes ≡ bytesOf n → cond (eqb (namedOf n) 1) (called bytes) unnamed ≡ n
+pub name-back : (n : Name) (bytes : List ℕ) → bytes ≡ bytesOf n → nameBy (namedOf n) bytes ≡ n
 name-back unnamed bytes is = refl
 name-back (called b) bytes is = ap called is
 

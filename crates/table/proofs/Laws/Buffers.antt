@@ -13,6 +13,10 @@ use lib.Seq.{drop-append-seam, take-append-seam, take-append-le}
 use Rattle.laws.proofs.Rests.{rest-part, rest-none}
 use Rattle.table.specs.Buffers.{over, zeros, padded, lowBytes}
 
+pub padded-none : (room : ℕ) → padded room [] ≡ zeros room
+unfolding padded
+padded-none room = let z : room - 0 ≡ room = omega arith in rw z
+
 pub record Laid (run rest : List ℕ) (i : ℕ) (l : List ℕ) : Type 0 where
   pub in-run : i ≤ length run
   pub in-rest : i ≤ length rest

@@ -10,6 +10,7 @@ use borrow.Author.Tests.{ltb-true, ltb-false, leb-true, leb-false}
 use lib.ListN.{length, take, drop, length-map, length-append, length-replicate, replicate-append-replicate}
 use denote.Enum.Declared.{tagOf}
 use Rattle.table.specs.Buffers.{zeros, padded}
+use Rattle.table.proofs.Laws.Buffers.{padded-none}
 use Rattle.ranks.specs.Walk as ranks
 use Rattle.ranks.specs.Walk.{resolve, ranksOf}
 use Rattle.rules.specs.Lawful.{maxEntries, tableOf}
@@ -42,10 +43,6 @@ ranksOf-plainly (m ∷ l) = rw (plain-rank m, ranksOf-plainly l)
 padded-whole : (xs : List ℕ) (n : ℕ) → length xs ≡ n → padded n xs ≡ xs
 unfolding padded
 padded-whole xs n h = let z : n - length xs ≡ 0 = omega arith in rw (z, append-nil)
-
-padded-none : (n : ℕ) → padded n [] ≡ zeros n
-unfolding padded
-padded-none n = let z : n - 0 ≡ n = omega arith in rw z
 
 module _ (rows refs : List ℕ) (n : ℕ) (l : List ℕ) (a : Walked) (len : length l ≡ n) (h : Shows [] l a (resolve (tableOf rows refs n)))
   where
