@@ -24,7 +24,7 @@ RUSTCS = {"rustc-1.63": "rustc libstd-rust-1.63 libstd-rust-dev rust-src".split(
 MADE = {
     "arch/cc.h": "",
     "config.h": "",
-    "modbus-version.h": "#define LIBMODBUS_VERSION_MAJOR 3\n#define LIBMODBUS_VERSION_MINOR 1\n#define LIBMODBUS_VERSION_MICRO 6\n",
+    "modbus-version.h": "".join(f"#define LIBMODBUS_VERSION_{k} {v}\n" for k, v in {"MAJOR": 3, "MINOR": 1, "MICRO": 6, "STRING": '"3.1.6"'}.items()),
     "compiler_builtins.rs": "#![no_std]\n#![feature(compiler_builtins)]\n#![compiler_builtins]\n",
     "json.cpp": """#include <nlohmann/json.hpp>
 std::string again(const std::string &text) { return nlohmann::json::parse(text).dump(2); }
@@ -63,13 +63,13 @@ CLANG_TARGETS = {
     "riscv64-linux-gnu +v": linux("riscv64-linux-gnu", "riscv64-linux-gnu", "-march=rv64gcv"),
     "s390x-linux-gnu": linux("s390x-linux-gnu", "s390x-linux-gnu"),
     "thumbv7m-none-eabi": (["--target=thumbv7m-none-eabi"], [NEWLIB], [f"{NEWLIB}/c++/12.2.1", f"{NEWLIB}/c++/12.2.1/arm-none-eabi/thumb/v7-m/nofp"]),
-    "wasm32-wasi": (["--target=wasm32-wasi"], ["ROOT/usr/include/wasm32-wasi"], ["ROOT/usr/lib/llvm-VERSION/include/wasm32-wasi/c++/v1"]),
+    "wasm32-wasi": (["--target=wasm32-wasi", "-D_WASI_EMULATED_SIGNAL", "-D_WASI_EMULATED_MMAN", "-D_WASI_EMULATED_PROCESS_CLOCKS"], ["ROOT/usr/include/wasm32-wasi"], ["ROOT/usr/lib/llvm-VERSION/include/wasm32-wasi/c++/v1"]),
     "x86_64-w64-mingw32": (["--target=x86_64-w64-mingw32"], ["ROOT/usr/share/mingw-w64/include"], []),
     "avr": (["--target=avr", "-mmcu=atmega328p"], ["ROOT/usr/lib/avr/include"], []),
     "spirv64": (["--target=spirv64"], [], []),
 }
 C_TARGETS = [t for t in CLANG_TARGETS if t not in ("avr", "spirv64", "riscv64-linux-gnu +v")]
-CPP_TARGETS = [t for t in C_TARGETS if t not in ("s390x-linux-gnu", "x86_64-w64-mingw32")]
+CPP_TARGETS = ["x86_64-linux-gnu", "armv7-linux-gnueabihf", "thumbv7m-none-eabi", "wasm32-wasi"]
 
 # ---- units of clang: name, source, further flags; the language is that of the list
 
@@ -143,14 +143,14 @@ PLAIN, OPAQUE = ["x86_64-linux-gnu"], ["x86_64-linux-gnu", "thumbv7m-none-eabi"]
 CLANG_RUNS = [
     ("C", C_UNITS, C_TARGETS, "14 19", "-O2"),
     ("C", C_UNITS, PLAIN, "14 19", "-O0"),
-    ("C", C_UNITS, OPAQUE, "14", "-O2 -opaque-pointers"),
+    ("C", C_UNITS, OPAQUE, "14", "-O0 -opaque-pointers"),
     ("C", C_UNITS, ["riscv64-linux-gnu +v"], "19", "-O2"),
     ("C", LARGE_UNITS, OPAQUE, "14 19", "-O2"),
     ("C", MMX_UNITS, ["x86_64-linux-gnu", "i686-linux-gnu"], "14 19", "-O2"),
     ("C", AVR_UNITS, ["avr"], "14 19", "-O2"),
     ("C++", CPP_UNITS, CPP_TARGETS, "14 19", "-O2"),
     ("C++", CPP_UNITS, PLAIN, "14 19", "-O0"),
-    ("C++", CPP_UNITS, PLAIN, "14", "-O2 -opaque-pointers"),
+    ("C++", CPP_UNITS, PLAIN, "14", "-O0 -opaque-pointers"),
     ("C++", LARGE_CPP_UNITS, PLAIN, "14 19", "-O2"),
     ("C++", AVR_CPP_UNITS, ["avr"], "14 19", "-O2"),
     ("OpenCL C", CL_UNITS, ["spirv64"], "14 19", "-O2"),
