@@ -4,7 +4,7 @@ Paths of sources and flags stand for files below the work folder: SRC/P is the u
 MADE the files below, which stand in for what the packages' own configuration would write.
 """
 
-INSTALLED = {"clang-14": "clang-14", "clang-19": "clang-19", "llvm-bcanalyzer-19": "llvm-19"}
+INSTALLED = {"clang-14": "clang-14", "clang-19": "clang-19", "llvm-bcanalyzer-19": "llvm-19", "xz": "xz-utils", "bzip2": "bzip2"}
 
 SOURCES = """arduino-core-avr box2d brotli bzip2 catch2 chipmunk cjson double-conversion duktape fmtlib googletest hiredis http-parser leveldb
  libjsoncpp libmodbus libpolyclipping libuv1 libyaml libzstd lmdb lua5.4 lwip lz4 mbedtls mujs nanopb ninja-build pixman pugixml re2 spdlog
