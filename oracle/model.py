@@ -1,7 +1,8 @@
 """A model of document 01 for cross-checking: it answers the cases of a transcript (ops 1 to 4) as the document says.
 
 `rust` is a set of names out of SWITCHES. Each makes the model do one thing as the original does it, and stands for an entry of
-docs/DIFFERENCES.md; with all of them the model says what the original answers. `edition` 2 is that of request 2026-14.
+docs/DIFFERENCES.md; with all of them the model says what the original answers. `requests` is a set of names out of REQUESTS, requests of
+document 02 that have not landed: tools/real-tables asks which of them takes a table. `edition` 2 is that of request 2026-14.
 """
 import re
 import sys
@@ -35,6 +36,11 @@ RECORD_SWITCHES = {
     "short-record": "a layout of one byte is refused, none is a panic (debug), where it comes as a record",
 }
 SWITCHES = {**TABLE_SWITCHES, **LAYOUT_SWITCHES, **RECORD_SWITCHES}
+REQUESTS = {
+    "2026-01": "StructNamed and Opaque always add an entry, with their own packed flag; there is no refusal 7",
+    "2026-06": "a reference from a Pointer to a named struct is not walked and does not count in ranks",
+    "2026-11": "code 17 gives 33",
+}
 
 PARTIAL_TYPE = 56  # bytes of the original's entry, which its first allocation counts in
 STEPS = 200_000  # where the oracle gives up on a table
@@ -51,7 +57,7 @@ class Rust(Exception):
 
 # ---- the type table
 
-NUM_ENTRY, OPAQUE, INTEGER, POINTER, FUNCTION_OLD, ARRAY, VECTOR = 1, 6, 7, 8, 9, 11, 12
+NUM_ENTRY, OPAQUE, INTEGER, POINTER, FUNCTION_OLD, ARRAY, VECTOR, MMX = 1, 6, 7, 8, 9, 11, 12, 17
 STRUCT_ANON, STRUCT_NAME, STRUCT_NAMED, FUNCTION, OPAQUE_POINTER = 18, 19, 20, 21, 25
 PLAIN = {2: 7, 3: 2, 4: 3, 5: 8, 10: 0, 13: 4, 14: 5, 15: 6, 16: 9, 17: 10, 22: 12, 23: 1, 24: 11}
 FIELDS = {INTEGER: 1, POINTER: 2, ARRAY: 2, VECTOR: 2, STRUCT_ANON: 1, STRUCT_NAMED: 1, FUNCTION: 2, OPAQUE_POINTER: 1}
@@ -108,7 +114,7 @@ def name_of(at, fields, rust, build):
     return name
 
 
-def first_pass(recs, lengths, rust=frozenset(), build="debug"):
+def first_pass(recs, lengths, rust=frozenset(), build="debug", requests=frozenset()):
     rows, refs, names, witness = lengths
     most = min(4096, rows // 8, witness)
     entries, pending, used_refs, used_names = [], b"", 0, 0
@@ -117,7 +123,9 @@ def first_pass(recs, lengths, rust=frozenset(), build="debug"):
             continue
         if len(fields) < FIELDS.get(code, 0):
             raise Refusal(2, at)
-        last = entries[-1] if entries and entries[-1].kind == STRUCT else None
+        if code == MMX and "2026-11" in requests:
+            raise Refusal(33, at)
+        last = entries[-1] if entries and entries[-1].kind == STRUCT and "2026-01" not in requests else None
         new, more_refs, more_names = None, 0, 0
         if code in PLAIN:
             new = Entry(PLAIN[code])
@@ -172,13 +180,18 @@ def first_pass(recs, lengths, rust=frozenset(), build="debug"):
 class Walk:
     """The resolution: ranks, and how many steps the original takes, which builds a shared entry again for each use."""
 
-    def __init__(self, entries, rust=frozenset()):
+    def __init__(self, entries, rust=frozenset(), requests=frozenset()):
         self.entries, self.rust, self.ranks, self.steps, self.path, self.count = entries, rust, {}, {}, [], 0
+        self.requests = requests
 
     def step(self, n):
         self.count += n
         if "shared" in self.rust and self.count > STEPS:
             raise Rust("large")
+
+    def is_exempt(self, row, ref):
+        target = self.entries[ref]
+        return "2026-06" in self.requests and row.kind == PTR and target.kind == STRUCT and target.name is not None
 
     def entry(self, e):
         if e in self.ranks:
@@ -194,13 +207,15 @@ class Walk:
         for ref in row.refs:
             if ref >= len(self.entries):
                 raise Refusal(11, e, ref)
+            if self.is_exempt(row, ref):
+                continue
             self.step(1)
             self.entry(ref)
         if row.kind == FIXED:
             self.step(2)
         self.path.pop()
         judge(self.entries, e)
-        self.ranks[e] = max((self.ranks[r] + 1 for r in row.refs), default=0)
+        self.ranks[e] = max((self.ranks[r] + 1 for r in row.refs if not self.is_exempt(row, r)), default=0)
         self.steps[e] = self.count - before
 
     def all(self):
@@ -232,16 +247,16 @@ def judge(entries, e):
         need(row.refs[1:], PARAMETER, 18)
 
 
-def table(stream, lengths, rust=frozenset(), build="debug"):
+def table(stream, lengths, rust=frozenset(), build="debug", requests=frozenset()):
     """Entries and ranks; or Refusal; or Rust."""
     recs = records(stream)
     stated = stated_count(recs, rust)
     if "huge-count" in rust and stated * PARTIAL_TYPE > 3 << 30:
         raise Rust("panic", 4) if stated * PARTIAL_TYPE >= 1 << 63 else Rust("died", 1)
-    entries = first_pass(recs, lengths, rust, build)
+    entries = first_pass(recs, lengths, rust, build, requests)
     if stated != len(entries):
         raise Refusal(10, stated, len(entries))
-    return entries, Walk(entries, rust).all()
+    return entries, Walk(entries, rust, requests).all()
 
 
 def table_answer(payload):
