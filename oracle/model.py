@@ -415,7 +415,9 @@ class Layout:
             raise Refusal(27)
         row = (space, size, abi, preferred, index)
         if "pointer-rows" in self.rust:
-            self.put(self.pointers, row, lambda old: old == row, 32)
+            of_space = [old for old in self.pointers if old[0] == space]
+            if of_space[-1:] != [row]:
+                self.put(self.pointers, row, lambda old: False, 32)
         else:
             self.put(self.pointers, row, lambda old: old[0] == space, 32)
 

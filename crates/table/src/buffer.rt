@@ -1,17 +1,22 @@
 // What is written into a lent buffer: a run of words or bytes over the front of the rest that is handed in, and zeros.
 // "The unused remainder of the reference or name buffer, starting at its fill mark, is lent to the appender" (01, forms).
 ghost use mathlib.Core.Path.{_≡_};
+ghost use Prim.Native.Nat.{min};
 ghost use lib.ListN.{length};
 ghost use Rattle.table.specs.Buffers.{over, zeros, lowBytes};
+
+fn least(a: usize, b: usize) -> usize
+    ensures { λ r. ⌜ r ≡ min a b ⌝ }
+{
+    if a <= b { a } else { b }
+}
 
 pub fn put_words(rest: &mut [u64], src: &[u64])
     ensures { λ _. ⌜ now (rest .exit) ≡ over (now (src .entry)) (now (rest .entry)) ⌝ }
 {
+    let count = least(src.len(), rest.len());
     let mut i = 0;
-    while i < src.len() {
-        if i == rest.len() {
-            return;
-        }
+    while i < count {
         rest[i] = src[i];
         i += 1;
     }
@@ -21,11 +26,9 @@ pub fn put_words(rest: &mut [u64], src: &[u64])
 pub fn put_bytes(rest: &mut [u8], src: &[u64])
     ensures { λ _. ⌜ now (rest .exit) ≡ over (lowBytes (now (src .entry))) (now (rest .entry)) ⌝ }
 {
+    let count = least(src.len(), rest.len());
     let mut i = 0;
-    while i < src.len() {
-        if i == rest.len() {
-            return;
-        }
+    while i < count {
         rest[i] = (src[i] % 256) as u8;
         i += 1;
     }

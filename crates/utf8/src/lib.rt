@@ -1,5 +1,6 @@
 // Well-formed UTF-8, a byte to a word (the Unicode Standard, table 3-7). A word above 255 is in no row of that table.
 ghost use mathlib.Core.Path.{_≡_};
+ghost use mathlib.Core.Bool.{true};
 ghost use mathlib.Core.List.{List, _∷_};
 ghost use Prim.Native.Nat.{ℕ};
 ghost use Rattle.utf8.specs.Utf8.{sequences, restOf, pays, owing, isUtf8};
@@ -60,9 +61,25 @@ fn next(o: Owed, byte: u64) -> Owed
     due(o.left - 1, LOW, HIGH)
 }
 
+// Whether every word is ASCII, which is well formed: most names are, and this loop is a short one.
+fn is_ascii(text: &[u64]) -> bool
+    ensures { λ r. ⌜ (r ≡ true → isUtf8 (now (text .entry)) ≡ true) ⌝ }
+{
+    let mut all = true;
+    let mut i = 0;
+    while i < text.len() {
+        all = all & (text[i] < LOW);
+        i += 1;
+    }
+    all
+}
+
 pub fn is_utf8(text: &[u64]) -> bool
     ensures { λ r. ⌜ r ≡ isUtf8 (now (text .entry)) ⌝ }
 {
+    if is_ascii(text) {
+        return true;
+    }
     let mut o = due(0, LOW, HIGH);
     let mut i = 0;
     while i < text.len() {

@@ -3,8 +3,10 @@
 --     over-rest             a run laid behind another; over-again: in place of a shorter one; padded-rest: zeros behind it
 -- Assumes nothing.
 use mathlib.Core.Path.{_≡_, refl, sym, ap, _∙_}
+use mathlib.Core.Logic.{⊎-elim}
 use mathlib.Core.List.{List, [], _∷_, _++_, append-nil, append-assoc}
-use Prim.Native.Nat.{ℕ, zero, suc, _+_, _-_, _%_, _≤_, _<_}
+use Prim.Native.Nat.{ℕ, zero, suc, _+_, _-_, _%_, _≤_, _<_, min}
+use native.Mathlib.Nat.{eq-or-lt-of-le}
 use native.Mathlib.Numerals.{add-one}
 use native.Mathlib.Omega.{arith}
 use lib.ListN.{length, getD, take, drop, set, length-append, length-drop, length-take, length-set, length-replicate, drop-of-length-le}
@@ -53,6 +55,11 @@ module _ (run rest : List ℕ) where
   unfolding over
   Laid-clipped i l h e =
       h .content ∙ rw (drop-of-length-le rest {i = length run} (omega arith), e, drop-length rest)
+
+  pub Laid-ended : (i : ℕ) (l : List ℕ) → Laid run rest i l → min (length run) (length rest) ≤ i → l ≡ over run rest
+  Laid-ended i l h out =
+      ⊎-elim (λ (e : i ≡ length run). Laid-done i l h (omega arith)) (λ (q : i < length run). Laid-clipped i l h (omega arith))
+      (eq-or-lt-of-le (h .in-run))
 
 pub over-zeros : (l : List ℕ) → over (zeros (length l)) l ≡ zeros (length l)
 unfolding over

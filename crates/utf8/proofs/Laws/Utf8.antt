@@ -149,3 +149,8 @@ bytes-of-pays (r ∷ rs) (b ∷ s) small t zero =
     omega arith
 bytes-of-pays (r ∷ rs) (b ∷ s) small t (suc k) =
     bytes-of-pays rs s (T-and (leb (r .last) 255) (byteRanges rs) small .1) (T-and (inRange r b) (pays rs s) t .1) k
+
+-- an ASCII byte owes nothing
+pub pays-ascii : (b : ℕ) (s : List ℕ) → b < 128 → pays [] (b ∷ s) ≡ pays [] s
+unfolding pays
+pays-ascii b s low = rw (within-inside 0 127 b (omega arith) (omega arith))

@@ -18,6 +18,12 @@ Inv-loop text o₀ i₀ o i = (i ≤ length text) × (isUtf8 text ≡ pays (owin
 abbrev μ-loop : tie.MeasureT-loop
 μ-loop text o₀ i₀ o i = length text - i
 
+is-ascii-requires : tie.Need-is-ascii-requires Inv-loop μ-loop
+is-ascii-requires c κs = search needs
+
+returns : tie.Need-returns Inv-loop μ-loop
+returns c = sym (c .before .is-ascii .ensures (c .if1 .taken))
+
 due-requires : tie.Need-due-requires Inv-loop μ-loop
 due-requires c κs = search needs
 
@@ -42,14 +48,14 @@ loop-less c = search needs
 loop-again : tie.Need-loop-again Inv-loop μ-loop
 loop-again c =
     let at-loop = c .before .before .before in
-    let text = at-loop .before .before .before .args .text .now in
+    let text = at-loop .before .before .before .before .before .args .text .now in
     let i = at-loop .loop .i in
     (search needs, at-loop .loop .inv .1 ∙ rw (drop-cons text i 0 (omega arith), add-one) (sym (c .next .ensures (drop (suc i) text))))
 
-returns : tie.Need-returns Inv-loop μ-loop
-returns c =
+returns-2 : tie.Need-returns-2 Inv-loop μ-loop
+returns-2 c =
     let at-loop = c .before .before in
-    let text = at-loop .before .before .before .args .text .now in
+    let text = at-loop .before .before .before .before .before .args .text .now in
     pays-done (at-loop .loop .o) ∙ sym (at-loop .loop .inv .1 ∙ rw (drop-of-length-le text {i = at-loop .loop .i} (omega arith)))
 
 pub is-utf8-spec : {M : Type 1} → statement M
@@ -58,6 +64,8 @@ is-utf8-spec =
     (tie.spec
     Inv-loop
     μ-loop
+    is-ascii-requires
+    returns
     due-requires
     loop-holds
     mul-next
@@ -66,4 +74,4 @@ is-utf8-spec =
     add-i
     loop-less
     loop-again
-    returns)
+    returns-2)

@@ -3,30 +3,22 @@
 use mathlib.Core.Path.{refl}
 use Prim.Native.Nat.{_-_}
 use native.Mathlib.Omega.{arith}
-use lib.ListN.{length}
 use borrow.Author.Needs.{needs}
-use Rattle.table.proofs.Laws.Buffers.{Laid, Laid-first, Laid-more, Laid-clipped, Laid-done}
+use Rattle.table.proofs.Laws.Buffers.{Laid, Laid-first, Laid-more, Laid-ended}
 use Rattle.table.proofs.buffer.put_words.Statement.{statement}
 use Rattle.table.proofs.buffer.put_words.Tie as tie
 
 abbrev Inv-loop : tie.InvT-loop
-Inv-loop rest₀ src i₀ rest i = Laid src rest₀ i rest
+Inv-loop rest₀ src count i₀ rest i = Laid src rest₀ i rest
 
 abbrev μ-loop : tie.MeasureT-loop
-μ-loop rest₀ src i₀ rest i = length src - i
+μ-loop rest₀ src count i₀ rest i = count - i
+
+least-requires : tie.Need-least-requires Inv-loop μ-loop
+least-requires c κs = search needs
 
 loop-holds : tie.Need-loop-holds Inv-loop μ-loop
-loop-holds c = Laid-first (c .args .src .now) (c .args .rest .now)
-
-same-length : tie.Need-same-length Inv-loop μ-loop
-same-length c = c .before .before .loop .inv .long
-
-returns : tie.Need-returns Inv-loop μ-loop
-returns c =
-    let at-loop = c .before .before in
-    let start = at-loop .before in
-    Laid-clipped (start .args .src .now) (start .args .rest .now) (at-loop .loop .i) (at-loop .loop .rest) (at-loop .loop .inv)
-    (omega arith)
+loop-holds c = let start = c .before .before .before in Laid-first (start .args .src .now) (start .args .rest .now)
 
 mul-rest : tie.Need-mul-rest Inv-loop μ-loop
 mul-rest c = search needs
@@ -48,19 +40,19 @@ loop-less c = search needs
 
 loop-again : tie.Need-loop-again Inv-loop μ-loop
 loop-again c =
-    let at-loop = c .before .before .before in
-    let start = at-loop .before in
-    Laid-more (start .args .src .now) (start .args .rest .now) (at-loop .loop .i) _ (at-loop .loop .rest) (at-loop .loop .inv) (omega arith)
-    (omega arith) refl
+    let at-loop = c .before .before in
+    let start = at-loop .before .before .before .before in
+    Laid-more (start .args .src .now) (start .args .rest .now) (at-loop .loop .i) _ (at-loop .loop .rest) (at-loop .loop .inv) (omega arith) (omega arith)
+    refl
 
-same-length-2 : tie.Need-same-length-2 Inv-loop μ-loop
-same-length-2 c = c .before .loop .inv .long
+same-length : tie.Need-same-length Inv-loop μ-loop
+same-length c = c .before .loop .inv .long
 
-returns-2 : tie.Need-returns-2 Inv-loop μ-loop
-returns-2 c =
+returns : tie.Need-returns Inv-loop μ-loop
+returns c =
     let at-loop = c .before in
-    let start = at-loop .before in
-    Laid-done (start .args .src .now) (start .args .rest .now) (at-loop .loop .i) (at-loop .loop .rest) (at-loop .loop .inv) (omega arith)
+    let start = at-loop .before .before .before .before in
+    Laid-ended (start .args .src .now) (start .args .rest .now) (at-loop .loop .i) (at-loop .loop .rest) (at-loop .loop .inv) (omega arith)
 
 pub put-words-spec : {M : Type 1} → statement M
 put-words-spec =
@@ -68,9 +60,8 @@ put-words-spec =
     (tie.spec
     Inv-loop
     μ-loop
+    least-requires
     loop-holds
-    same-length
-    returns
     mul-rest
     shared-slice-read-rest
     mul-rest-2
@@ -78,5 +69,5 @@ put-words-spec =
     add-i
     loop-less
     loop-again
-    same-length-2
-    returns-2)
+    same-length
+    returns)
