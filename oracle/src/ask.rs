@@ -3,20 +3,17 @@
 use std::convert::TryFrom;
 use std::panic::{catch_unwind, AssertUnwindSafe};
 
-use llvm_bitstream::parser::StreamEntry;
-use llvm_bitstream::record::{Block, Record};
-use llvm_bitstream::Bitstream;
-use llvm_support::bitcodes::{IdentificationCode, IrBlockId, ModuleCode, StrtabCode};
+use llvm_support::bitcodes::ModuleCode;
 use llvm_support::{
     AddressSpace, Align, AlignSpecError, ArrayTypeError, Endian, FunctionPointerAlign, FunctionTypeError, Mangling,
     PointerTypeError, StructTypeError, Type, VectorTypeError,
 };
 
-use crate::block::{Module, TypeTable, TypeTableError};
+use crate::block::{TypeTable, TypeTableError};
 use crate::guard::{self, Stop};
+use crate::lay::{module, record, records, type_block};
 use crate::map::MapError;
 use crate::record::{DataLayout, DataLayoutError, RecordStringError};
-use crate::unroll::Bitcode;
 use crate::words;
 
 const TAKEN: u64 = 0;
@@ -57,49 +54,10 @@ fn panic_kind(message: &str) -> u64 {
 fn table(payload: &[u64]) -> Option<Vec<u64>> {
     let records = records(payload.get(4..)?)?;
     guard::start(records.len());
-    let block = [
-        vec![open(IrBlockId::Type)],
-        records.into_iter().map(StreamEntry::Record).collect(),
-        vec![StreamEntry::EndBlock],
-    ];
-    Some(match module(block.into_iter().flatten().collect()).types? {
+    Some(match module(type_block(records)).types? {
         Ok(types) => entries(&types),
         Err(error) => table_error(error),
     })
-}
-
-/// The records of a stream, where it does not end inside one.
-fn records(mut stream: &[u64]) -> Option<Vec<Record>> {
-    let mut records = Vec::new();
-    while let [code, rest @ ..] = stream {
-        let (count, rest) = rest.split_first()?;
-        let count = usize::try_from(*count).ok().filter(|n| *n <= rest.len())?;
-        records.push(Record { code: *code, fields: rest[..count].to_vec() });
-        stream = &rest[count..];
-    }
-    Some(records)
-}
-
-fn open(id: IrBlockId) -> StreamEntry {
-    StreamEntry::SubBlock(Block { block_id: id.into() })
-}
-
-fn record(code: impl Into<u64>, fields: Vec<u64>) -> StreamEntry {
-    StreamEntry::Record(Record { code: code.into(), fields })
-}
-
-/// A whole bitcode stream around the contents of its module block, read by the original's unroll.rs.
-fn module(contents: Vec<StreamEntry>) -> Module {
-    let parts = [
-        vec![open(IrBlockId::Identification)],
-        vec![record(IdentificationCode::ProducerString, vec![65, 65]), record(IdentificationCode::Epoch, vec![0])],
-        vec![StreamEntry::EndBlock, open(IrBlockId::Module)],
-        contents,
-        vec![StreamEntry::EndBlock, open(IrBlockId::Strtab), record(StrtabCode::Blob, vec![0, 0]), StreamEntry::EndBlock],
-    ];
-    let stream: Bitstream<Vec<u8>> = Bitstream::of(parts.into_iter().flatten().collect());
-    let bitcode = Bitcode::try_from(stream).expect("a whole stream");
-    bitcode.modules.into_iter().next().expect("one module").module
 }
 
 fn entries(types: &TypeTable) -> Vec<u64> {

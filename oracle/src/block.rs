@@ -1,14 +1,13 @@
-//! Stands in for block/mod.rs, block/module.rs and block/attributes.rs, which need files that are not given.
+//! Stands in for block/mod.rs and block/attributes.rs, which need files that are not given. The module is in module.rs: bench/ uses
+//! this file with a module of its own.
 //! The four files named by `#[path]` are the original's, unchanged.
 
 use std::convert::TryFrom;
 
-use llvm_support::bitcodes::{IrBlockId, ModuleCode};
+use llvm_support::bitcodes::IrBlockId;
 use thiserror::Error;
 
-use crate::map::{MapError, PartialCtxMappable, PartialMapCtx};
-use crate::record::{DataLayout, DataLayoutError};
-use crate::unroll::Block;
+use crate::map::MapError;
 
 #[path = "../target/mollusc/llvm-mapper/src/block/identification.rs"]
 pub mod identification;
@@ -19,6 +18,7 @@ pub mod symtab;
 #[path = "../target/mollusc/llvm-mapper/src/block/type_table.rs"]
 pub mod type_table;
 
+pub use crate::module::Module;
 pub use attributes::*;
 pub use identification::*;
 pub use strtab::*;
@@ -71,21 +71,4 @@ pub enum BlockMapError {
     Strtab(#[from] StrtabError),
     #[error("symbol table")]
     Symtab(#[from] SymtabError),
-}
-
-/// A module that keeps its layout and its type table, and asks for both as module.rs does.
-#[derive(Debug)]
-pub struct Module {
-    pub layout: Option<Result<DataLayout, DataLayoutError>>,
-    pub types: Option<Result<TypeTable, TypeTableError>>,
-}
-
-impl TryFrom<(&'_ Block, &'_ mut PartialMapCtx)> for Module {
-    type Error = MapError;
-
-    fn try_from((block, ctx): (&'_ Block, &'_ mut PartialMapCtx)) -> Result<Self, MapError> {
-        let layout = block.records.one_or_none(ModuleCode::DataLayout)?.map(|record| DataLayout::try_map(record, ctx));
-        let types = block.blocks.one_or_none(IrBlockId::Type)?.map(TypeTable::try_from);
-        Ok(Module { layout, types })
-    }
 }

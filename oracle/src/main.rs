@@ -4,6 +4,8 @@ mod ask;
 mod block;
 mod guard;
 mod isolate;
+mod lay;
+mod module;
 mod words;
 
 #[path = "../target/mollusc/llvm-mapper/src/error.rs"]
