@@ -2,7 +2,7 @@
 ghost use mathlib.Core.Path.{_≡_};
 ghost use Prim.Native.Nat.{_≤_, min};
 ghost use Rattle.flat.specs.Words.{numbersWords, typesWords, pointersWords, layoutWords};
-ghost use Rattle.flat.specs.Puts.{Behind, Part, Puts};
+ghost use Rattle.flat.specs.Puts.{Behind, Part, Puts, maxWords};
 use crate::parts::HEAD_WORDS;
 use crate::parts::POINTER_WORDS;
 use crate::parts::TYPE_WORDS;
@@ -17,6 +17,9 @@ use layout::record::DataLayout;
 use layout::types::MAX_TYPE_ROWS;
 use layout::types::TypeAlignSpecs;
 use table::buffer::put_words;
+
+// No layout has more words: nine, 16 widths and 16 spaces with their counts, 64 type rows of four and 32 pointer rows of five with theirs.
+pub const LAYOUT_WORDS: usize = 461;
 
 fn least(a: usize, b: usize) -> usize
     ensures { λ r. ⌜ r ≡ min a b ⌝ }
@@ -35,7 +38,7 @@ fn put_behind(out: &mut [u64], at: usize, src: &[u64])
 }
 
 fn put_numbers(out: &mut [u64], at: usize, numbers: Numbers) -> usize
-    requires { ⌜ at ≤ 461 ⌝ }
+    requires { ⌜ at ≤ maxWords ⌝ }
     ensures { λ r. ⌜ Part (numbersWords numbers) 17 at (now (out .entry)) r (now (out .exit)) ⌝ }
 {
     let items = numbers.items;
@@ -46,7 +49,7 @@ fn put_numbers(out: &mut [u64], at: usize, numbers: Numbers) -> usize
 }
 
 fn put_types(out: &mut [u64], at: usize, specs: TypeAlignSpecs) -> usize
-    requires { ⌜ at ≤ 461 ⌝ }
+    requires { ⌜ at ≤ maxWords ⌝ }
     ensures { λ r. ⌜ Part (typesWords specs) 257 at (now (out .entry)) r (now (out .exit)) ⌝ }
 {
     let rows = specs.rows;
@@ -62,7 +65,7 @@ fn put_types(out: &mut [u64], at: usize, specs: TypeAlignSpecs) -> usize
 }
 
 fn put_pointers(out: &mut [u64], at: usize, specs: PointerAlignSpecs) -> usize
-    requires { ⌜ at ≤ 461 ⌝ }
+    requires { ⌜ at ≤ maxWords ⌝ }
     ensures { λ r. ⌜ Part (pointersWords specs) 161 at (now (out .entry)) r (now (out .exit)) ⌝ }
 {
     let rows = specs.rows;

@@ -1,11 +1,9 @@
 // Layout strings, one a line on standard input: for each, `layout ok` and the layout's words, or `layout refused R P D`.
 // The words are those of a transcript's layout: endianness, stack, three spaces, aggregate field, function pointers, mangling,
 // widths, non-integral spaces, type rows, pointer rows; alignments in bits.
+use flat::put::LAYOUT_WORDS;
 use libc::STDIN_FILENO;
 use libc::STDOUT_FILENO;
-
-// The longest layout.
-const LAYOUT_WORDS: usize = 461;
 
 fn write_number(n: u64, behind: &[u8]) {
     io::print_decimal(STDOUT_FILENO, n);

@@ -31,7 +31,7 @@ pub const MAX_ENTRIES: u64 = table::row::MAX_ENTRIES;
 pub const ANSWER_WORDS: usize = 3;
 
 // No layout has more words.
-pub const LAYOUT_WORDS: usize = 461;
+pub const LAYOUT_WORDS: usize = flat::put::LAYOUT_WORDS;
 
 fn put_three(out: &mut [u64], first: u64, second: u64, third: u64)
     ensures { λ _. ⌜ now (out .exit) ≡ over (first ∷ second ∷ third ∷ []) (now (out .entry)) ⌝ }

@@ -6,11 +6,9 @@ use crate::out::put_words;
 use crate::told::Told;
 use crate::told::put_told;
 use datalayout::map::from_str;
+use flat::put::LAYOUT_WORDS;
 use flat::put::put_layout;
 use table::buffer::put_bytes;
-
-// The longest layout.
-const LAYOUT_WORDS: usize = 461;
 
 fn put_layout_words(answer: &mut [u8], at: usize, words: &[u64], count: usize) -> usize {
     if count <= words.len() {
