@@ -44,8 +44,8 @@ loop-again c =
     let at-loop = c .before .before in
     let start = at-loop .before .before .before .before in
     let long = length-lowBytes (start .args .src .now) in
-    Laid-more (lowBytes (start .args .src .now)) (start .args .rest .now) (at-loop .loop .i) _ (at-loop .loop .rest) (at-loop .loop .inv) (omega arith) (omega arith)
-    (sym (getD-lowBytes (start .args .src .now) (at-loop .loop .i)))
+    Laid-more (lowBytes (start .args .src .now)) (start .args .rest .now) (at-loop .loop .i) _ (at-loop .loop .rest) (at-loop .loop .inv)
+    (omega arith) (omega arith) (sym (getD-lowBytes (start .args .src .now) (at-loop .loop .i)))
 
 same-length : tie.Need-same-length Inv-loop μ-loop
 same-length c = c .before .loop .inv .long
