@@ -64,10 +64,21 @@ pub fn row_at(rows: &[u64], e: usize) -> Row
     }
 }
 
-// The row over the front of the unused rest.
+// The row over the front of the unused rest. A whole row is stored word by word, which costs less than a run of any length.
 pub fn put_row(rest: &mut [u64], row: Row)
     ensures { λ _. ⌜ now (rest .exit) ≡ over (wordsOf row) (now (rest .entry)) ⌝ }
 {
+    if ROW_WORDS <= rest.len() {
+        rest[0] = row.kind;
+        rest[1] = row.number;
+        rest[2] = row.flag;
+        rest[3] = row.first;
+        rest[4] = row.count;
+        rest[5] = row.start;
+        rest[6] = row.len;
+        rest[7] = row.named;
+        return;
+    }
     let words = [
         row.kind,
         row.number,

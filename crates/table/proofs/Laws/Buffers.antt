@@ -1,5 +1,6 @@
 -- Laws of specs/Buffers.antt: a run laid over a buffer step by step (words, bytes and zeros alike), and behind another run.
 --     Laid run rest i l     l is rest with the first i of run laid over its front
+--     storedFrom i run l    l with run stored word by word from place i on
 --     over-rest             a run laid behind another; over-again: in place of a shorter one; padded-rest: zeros behind it
 -- Assumes nothing.
 use mathlib.Core.Path.{_≡_, refl, sym, ap, _∙_}
@@ -60,6 +61,26 @@ module _ (run rest : List ℕ) where
   Laid-ended i l h out =
       ⊎-elim (λ (e : i ≡ length run). Laid-done i l h (omega arith)) (λ (q : i < length run). Laid-clipped i l h (omega arith))
       (eq-or-lt-of-le (h .in-run))
+
+-- a run stored word by word, from place i on: past the end of l nothing is stored
+abbrev pub storedFrom : ℕ → List ℕ → List ℕ → List ℕ
+storedFrom i [] l = l
+storedFrom i (v ∷ run) l = storedFrom (suc i) run (set l i v)
+
+storedFrom-nil : (i : ℕ) (run : List ℕ) → storedFrom i run [] ≡ []
+storedFrom-nil i [] = refl
+storedFrom-nil i (v ∷ run) = storedFrom-nil (suc i) run
+
+storedFrom-cons : (x i : ℕ) (run l : List ℕ) → storedFrom (suc i) run (x ∷ l) ≡ x ∷ storedFrom i run l
+storedFrom-cons x i [] l = refl
+storedFrom-cons x i (v ∷ run) l = storedFrom-cons x (suc i) run (set l i v)
+
+pub stored-agrees-over : (run l : List ℕ) → storedFrom 0 run l ≡ over run l
+unfolding over
+stored-agrees-over [] [] = refl
+stored-agrees-over [] (x ∷ l) = refl
+stored-agrees-over (v ∷ run) [] = storedFrom-nil 1 run
+stored-agrees-over (v ∷ run) (x ∷ l) = storedFrom-cons v 0 run l ∙ ap (λ (k : List ℕ). v ∷ k) (stored-agrees-over run l)
 
 pub over-zeros : (l : List ℕ) → over (zeros (length l)) l ≡ zeros (length l)
 unfolding over
