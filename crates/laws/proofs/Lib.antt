@@ -1,3 +1,4 @@
+pub mod Bits
 pub mod Bools
 pub mod Numbers
 pub mod Rests

@@ -61,17 +61,18 @@ fn next(o: Owed, byte: u64) -> Owed
     due(o.left - 1, LOW, HIGH)
 }
 
-// Whether every word is ASCII, which is well formed: most names are, and this loop is a short one.
+// Whether every word is ASCII, which is well formed: most names are. The words are joined bit by bit and compared once, so that
+// the loop is a short one.
 fn is_ascii(text: &[u64]) -> bool
     ensures { λ r. ⌜ (r ≡ true → isUtf8 (now (text .entry)) ≡ true) ⌝ }
 {
-    let mut all = true;
+    let mut all = 0;
     let mut i = 0;
     while i < text.len() {
-        all = all & (text[i] < LOW);
+        all = all | text[i];
         i += 1;
     }
-    all
+    all < LOW
 }
 
 pub fn is_utf8(text: &[u64]) -> bool
