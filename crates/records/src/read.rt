@@ -17,8 +17,7 @@ use crate::Opening;
 use crate::pass::read_records;
 use stream::Frame;
 use stream::Stated;
-use stream::count_of;
-use stream::framing;
+use stream::survey_of;
 use table::buffer::clear_bytes;
 use table::buffer::clear_words;
 use table::row;
@@ -30,11 +29,14 @@ pub const MAX_ENTRIES: usize = row::MAX_ENTRIES as usize;
 fn opening_of(words: &[u64]) -> Opening
     ensures { λ r. ⌜ r ≡ openingOf (framed 0 (stream (now (words .entry)))) (statedBy (numEntries (stream (now (words .entry))))) ⌝ }
 {
-    match framing(words) {
+    let survey = survey_of(words);
+    let frame = survey.frame;
+    let stated = survey.stated;
+    match frame {
         Frame::CutAt(head) => Opening::Bad(Answer::CutRecord(head as u64)),
-        Frame::Whole => match count_of(words) {
+        Frame::Whole => match stated {
             Stated::Nothing => Opening::Bad(Answer::NoSingleCount),
-            Stated::Count(stated) => Opening::Fine(stated),
+            Stated::Count(count) => Opening::Fine(count),
             Stated::Faulty => Opening::Bad(Answer::NoSingleCount),
         },
     }

@@ -2,6 +2,7 @@
 --     numEntryIn c fs     the record c with fields fs, if it is a NumEntry
 --     numEntries s        the fields of each NumEntry of s
 --     statedBy fss        what NumEntry records with these fields state: "Spare fields elsewhere are ignored"
+--     surveyOf ws         whether the words ws are whole records, and what their NumEntry records state
 -- Assumes nothing.
 use mathlib.Core.Bool.{Bool, true, false, cond}
 use mathlib.Core.List.{List, [], _∷_, _++_}
@@ -12,7 +13,8 @@ use Rattle.kinds.specs.declared.code.TypeCode.the-variants.{StructAnon, StructN
 use Rattle.kinds.specs.Codes.{typeCode}
 use Rattle.stream.specs.declared.Stated.{Stated}
 use Rattle.stream.specs.declared.Stated.the-variants.{Nothing, Count, Faulty}
-use Rattle.stream.specs.Stream.{Stream, done, cut, rec}
+use Rattle.stream.specs.declared.Survey.{Survey}
+use Rattle.stream.specs.Stream.{Stream, done, cut, rec, stream, framed}
 
 abbrev pub isNumEntry : TypeCode → Bool
 isNumEntry NumEntry = true
@@ -43,3 +45,7 @@ statedBy [] = Nothing
 statedBy ([] ∷ []) = Faulty
 statedBy ((count ∷ spare) ∷ []) = Count count
 statedBy (one ∷ two ∷ more) = Faulty
+
+-- "Order: 1 over the whole stream; NumEntry; ..": both are seen before any record is judged
+abbrev pub surveyOf : List ℕ → Survey
+surveyOf ws = record { frame = framed 0 (stream ws); stated = statedBy (numEntries (stream ws)) }

@@ -1,9 +1,9 @@
-// A type stream as records: what stands at a place, whether every record is whole, and what the NumEntry records state.
+// A type stream as records: what stands at a place; whether every record is whole, and what the NumEntry records state.
 ghost use mathlib.Core.Path.{_≡_};
 ghost use mathlib.Core.List.{List, _++_};
 ghost use Prim.Native.Nat.{ℕ};
-ghost use Rattle.stream.specs.Stream.{stream, recordAt, framed};
-ghost use Rattle.stream.specs.Count.{numEntries, numEntryIn, statedBy};
+ghost use Rattle.stream.specs.Stream.{recordAt};
+ghost use Rattle.stream.specs.Count.{numEntryIn, statedBy, surveyOf};
 use kinds::code::NUM_ENTRY;
 
 // At a place: nothing, a record that is cut, or a record with its code, where its fields start and where they end.
@@ -23,6 +23,12 @@ pub enum Stated {
     Nothing,
     Count(u64),
     Faulty,
+}
+
+// What is seen of a whole stream before any record is judged.
+pub struct Survey {
+    pub frame: Frame,
+    pub stated: Stated,
 }
 
 // The field count is compared with the words that are left, so that a huge one does not wrap.
@@ -45,25 +51,6 @@ pub fn record_at(words: &[u64], at: usize) -> Found
     Found::Record(code, start, start + count)
 }
 
-pub fn framing(words: &[u64]) -> Frame
-    ensures { λ r. ⌜ r ≡ framed 0 (stream (now (words .entry))) ⌝ }
-{
-    let mut at = 0;
-    loop {
-        match record_at(words, at) {
-            Found::End => {
-                return Frame::Whole;
-            }
-            Found::Cut => {
-                return Frame::CutAt(at);
-            }
-            Found::Record(_, _, end) => {
-                at = end;
-            }
-        }
-    }
-}
-
 // What is stated once one more record was seen.
 fn count_in(before: Stated, code: u64, fields: &[u64]) -> Stated
     ensures { λ r. ⌜ ((seen : List (List ℕ)) → before ≡ statedBy seen
@@ -84,18 +71,25 @@ fn count_in(before: Stated, code: u64, fields: &[u64]) -> Stated
     }
 }
 
-pub fn count_of(words: &[u64]) -> Stated
-    ensures { λ r. ⌜ r ≡ statedBy (numEntries (stream (now (words .entry)))) ⌝ }
+// One sweep over the heads of the records.
+pub fn survey_of(words: &[u64]) -> Survey
+    ensures { λ r. ⌜ r ≡ surveyOf (now (words .entry)) ⌝ }
 {
     let mut at = 0;
     let mut stated = Stated::Nothing;
     loop {
         match record_at(words, at) {
             Found::End => {
-                return stated;
+                return Survey {
+                    frame: Frame::Whole,
+                    stated: stated,
+                };
             }
             Found::Cut => {
-                return stated;
+                return Survey {
+                    frame: Frame::CutAt(at),
+                    stated: stated,
+                };
             }
             Found::Record(code, start, end) => {
                 stated = count_in(stated, code, &words[start..end]);

@@ -1,4 +1,4 @@
--- Laws of specs/Count.antt: one NumEntry more, and the turns of the loop that counts them.
+-- Laws of specs/Count.antt: one NumEntry more, and the turns of the sweep that counts them and finds a record that is cut.
 -- Assumes nothing.
 use mathlib.Core.Path.{_≡_, refl, sym, ap, _∙_}
 use mathlib.Core.Bool.{Bool, true, false, cond}
@@ -12,11 +12,14 @@ use Rattle.laws.proofs.Told.{no}
 use Rattle.kinds.specs.Codes.{Numbered, codes, codeIn, typeCode}
 use Rattle.stream.specs.declared.Found.{Found}
 use Rattle.stream.specs.declared.Found.the-variants.{End, Cut, Record}
+use Rattle.stream.specs.declared.Frame.{Frame}
+use Rattle.stream.specs.declared.Frame.the-variants.{Whole, CutAt}
 use Rattle.stream.specs.declared.Stated.{Stated}
 use Rattle.stream.specs.declared.Stated.the-variants.{Nothing, Count, Faulty}
-use Rattle.stream.specs.Stream.{stream, recordAt}
-use Rattle.stream.specs.Count.{isNumEntry, numEntryIn, numEntries, statedBy}
-use Rattle.stream.proofs.Laws.Stream.{is-end, is-cut, is-record, lies}
+use Rattle.stream.specs.declared.Survey.{Survey}
+use Rattle.stream.specs.Stream.{stream, recordAt, framed}
+use Rattle.stream.specs.Count.{isNumEntry, numEntryIn, numEntries, statedBy, surveyOf}
+use Rattle.stream.proofs.Laws.Stream.{is-end, is-cut, is-record, lies, framed-end, framed-cut, framed-next}
 
 -- the code 1 alone is NumEntry
 
@@ -87,35 +90,40 @@ pub stated-count : (fields : List ℕ) → (length fields ≡ 0 → ⊥) → Cou
 stated-count [] h = absurd (h refl)
 stated-count (n ∷ fs) h = refl
 
--- the loop: the NumEntry records before the place, and those behind it
-pub record Counted (ws : List ℕ) (at : ℕ) (stated : Stated) : Type 0 where
+-- the sweep: the NumEntry records before the place, and those behind it; a record that is cut lies behind it
+pub record Surveyed (ws : List ℕ) (at : ℕ) (stated : Stated) : Type 0 where
   pub in-words : at ≤ length ws
   pub seen : List (List ℕ)
   pub stated-is : stated ≡ statedBy seen
   pub whole : numEntries (stream ws) ≡ seen ++ numEntries (stream (drop at ws))
+  pub frame-is : framed 0 (stream ws) ≡ framed at (stream (drop at ws))
 
-pub Counted-first : (ws : List ℕ) → Counted ws 0 Nothing
-Counted-first ws = record { in-words = omega arith; seen = []; stated-is = refl; whole = refl }
+abbrev survey : Frame → Stated → Survey
+survey frame stated = record { frame = frame; stated = stated }
 
-module _ (ws : List ℕ) (at : ℕ) (stated : Stated) (h : Counted ws at stated) (r : Found) (is : r ≡ recordAt ws at) where
-  done-by : numEntries (stream (drop at ws)) ≡ [] → stated ≡ statedBy (numEntries (stream ws))
-  done-by none =
+pub Surveyed-first : (ws : List ℕ) → Surveyed ws 0 Nothing
+Surveyed-first ws = record { in-words = omega arith; seen = []; stated-is = refl; whole = refl; frame-is = refl }
+
+module _ (ws : List ℕ) (at : ℕ) (stated : Stated) (h : Surveyed ws at stated) (r : Found) (is : r ≡ recordAt ws at) where
+  done-by : (frame : Frame) → framed at (stream (drop at ws)) ≡ frame → numEntries (stream (drop at ws)) ≡ []
+      → survey frame stated ≡ surveyOf ws
+  done-by frame ends none =
       let all : numEntries (stream ws) ≡ h .seen = h .whole ∙ rw (none, append-nil (h .seen)) in
-      rw all (h .stated-is)
+      rw (all, h .frame-is, ends, h .stated-is)
 
-  pub Counted-end : r ≡ End → stated ≡ statedBy (numEntries (stream ws))
+  pub Surveyed-end : r ≡ End → survey Whole stated ≡ surveyOf ws
   unfolding numEntries
-  Counted-end q = done-by (rw (is-end ws at r is q))
+  Surveyed-end q = done-by Whole (framed-end ws at r is q) (rw (is-end ws at r is q))
 
-  pub Counted-cut : r ≡ Cut → stated ≡ statedBy (numEntries (stream ws))
+  pub Surveyed-cut : r ≡ Cut → survey (CutAt at) stated ≡ surveyOf ws
   unfolding numEntries
-  Counted-cut q = done-by (rw (is-cut ws at r is q))
+  Surveyed-cut q = done-by (CutAt at) (framed-cut ws at r is q) (rw (is-cut ws at r is q))
 
-  pub Counted-more : (c s e : ℕ) → r ≡ Record c s e → (next : Stated)
+  pub Surveyed-more : (c s e : ℕ) → r ≡ Record c s e → (next : Stated)
       → ((seen : List (List ℕ)) → stated ≡ statedBy seen → next ≡ statedBy (seen ++ numEntryIn c (take (e - s) (drop s ws))))
-      → Counted ws e next
+      → Surveyed ws e next
   unfolding numEntries
-  Counted-more c s e q next steps =
+  Surveyed-more c s e q next steps =
       let l = lies ws at r is c s e q in
       let fields = take (e - s) (drop s ws) in
       record {
@@ -124,4 +132,5 @@ module _ (ws : List ℕ) (at : ℕ) (stated : Stated) (h : Counted ws at stated)
         stated-is = steps (h .seen) (h .stated-is);
         whole = h .whole ∙ rw (is-record ws at r is c s e q) (sym (append-assoc (h .seen) (numEntryIn c fields)
             (numEntries (stream (drop e ws)))));
+        frame-is = h .frame-is ∙ framed-next ws at r is c s e q;
       }

@@ -1,5 +1,5 @@
--- `stream::count_of` meets its contract. The invariant, `Counted`: what is stated comes of the NumEntry records before the place,
--- and these with those behind it are those of the whole. Assumes nothing.
+-- `stream::survey_of` meets its contract. The invariant, `Surveyed`: what is stated comes of the NumEntry records before the place,
+-- these with those behind it are those of the whole, and the framing of the whole is that of what is left. Assumes nothing.
 use mathlib.Core.Path.{_≡_}
 use Prim.Native.Nat.{_≤_, _+_, _-_}
 use native.Mathlib.Omega.{arith}
@@ -7,16 +7,16 @@ use lib.ListN.{length}
 use borrow.Author.Needs.{needs}
 use Rattle.stream.specs.declared.Found.the-variants.{End, Cut, Record}
 use Rattle.stream.proofs.Laws.Stream.{lies, words-fall}
-use Rattle.stream.proofs.Laws.Count.{Counted, Counted-first, Counted-end, Counted-cut, Counted-more}
-use Rattle.stream.proofs.count_of.Statement.{statement}
-use Rattle.stream.proofs.count_of.Tie as tie
-use Rattle.stream.proofs.count_of.Reads as reads
-use Rattle.stream.proofs.count_of.Lts as lts
+use Rattle.stream.proofs.Laws.Count.{Surveyed, Surveyed-first, Surveyed-end, Surveyed-cut, Surveyed-more}
+use Rattle.stream.proofs.survey_of.Statement.{statement}
+use Rattle.stream.proofs.survey_of.Tie as tie
+use Rattle.stream.proofs.survey_of.Reads as reads
+use Rattle.stream.proofs.survey_of.Lts as lts
 use Rattle.stream.proofs.count_in.Reads as count-in-reads
 use Rattle.stream.proofs.record_at.Reads as record-at-reads
 
 abbrev Inv-loop : tie.InvT-loop
-Inv-loop words at₀ stated₀ at stated = Counted words at stated
+Inv-loop words at₀ stated₀ at stated = Surveyed words at stated
 
 abbrev μ-loop : tie.MeasureT-loop
 μ-loop words at₀ stated₀ at stated = length words - at
@@ -39,7 +39,7 @@ within-words c =
     lies (at-loop .before .before .args .words .now) (at-loop .loop .at) (call .result) (call .ensures) _ _ _ (found c)
 
 loop-holds : tie.Need-loop-holds Inv-loop μ-loop
-loop-holds c = Counted-first (c .before .args .words .now)
+loop-holds c = Surveyed-first (c .before .args .words .now)
 
 record-at-requires : tie.Need-record-at-requires Inv-loop μ-loop
 record-at-requires c κs = search needs
@@ -52,7 +52,7 @@ returns c =
     let at-loop = c .before .before .before in
     let call = c .before .before .record-at in
     let found : call .result ≡ End = search needs in
-    Counted-end (at-loop .before .before .args .words .now) (at-loop .loop .at) (at-loop .loop .stated) (at-loop .loop .inv) (call .result)
+    Surveyed-end (at-loop .before .before .args .words .now) (at-loop .loop .at) (at-loop .loop .stated) (at-loop .loop .inv) (call .result)
     (call .ensures) found
 
 enum-told-2 : tie.Need-enum-told-2 Inv-loop μ-loop
@@ -63,7 +63,7 @@ returns-2 c =
     let at-loop = c .before .before .before in
     let call = c .before .before .record-at in
     let found : call .result ≡ Cut = search needs in
-    Counted-cut (at-loop .before .before .args .words .now) (at-loop .loop .at) (at-loop .loop .stated) (at-loop .loop .inv) (call .result)
+    Surveyed-cut (at-loop .before .before .args .words .now) (at-loop .loop .at) (at-loop .loop .stated) (at-loop .loop .inv) (call .result)
     (call .ensures) found
 
 enum-known-code : tie.Need-enum-known-code Inv-loop μ-loop
@@ -98,12 +98,12 @@ loop-again c =
     let at-loop = at-record .before .before .before .before in
     let call = at-record .before .before .before .record-at in
     let words = at-loop .before .before .args .words .now in
-    Counted-more words (at-loop .loop .at) (at-loop .loop .stated) (at-loop .loop .inv) (call .result) (call .ensures) _ _ _
+    Surveyed-more words (at-loop .loop .at) (at-loop .loop .stated) (at-loop .loop .inv) (call .result) (call .ensures) _ _ _
     (found at-record)
     (c .count-in .result) (c .count-in .ensures)
 
-pub count-of-spec : {M : Type 1} → statement M
-count-of-spec =
+pub survey-of-spec : {M : Type 1} → statement M
+survey-of-spec =
     tie.close
     (tie.spec
     Inv-loop
