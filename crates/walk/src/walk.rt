@@ -84,6 +84,7 @@ fn resolve_entry(rows: &[u64], refs: &[u64], marks: &mut [u64], depth: usize, e:
 }
 
 // The references of entry e, in order, each fully. A loop, so that a stretch of any length takes one frame of the stack.
+// A finished entry's mark tells its rank, without a call.
 fn resolve_stretch(
     rows: &[u64],
     refs: &[u64],
@@ -108,6 +109,12 @@ fn resolve_stretch(
             return Walked::Refused(e, Fault::OutOfRange(to));
         }
         if !counts(row_at(rows, e), row_at(rows, k)) {
+            i += 1;
+            continue;
+        }
+        let mark = marks[k];
+        if FINISHED <= mark {
+            best = above(best, Rank(mark - FINISHED));
             i += 1;
             continue;
         }

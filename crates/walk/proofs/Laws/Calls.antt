@@ -23,15 +23,25 @@ use Rattle.walk.specs.declared.Fault.the-variants.{OutOfRange}
 use Rattle.walk.specs.declared.Walked.{Walked}
 use Rattle.walk.proofs.Walked.{the-type}
 use Rattle.walk.specs.declared.Walked.the-variants.{Ranked, Ring, Refused}
-use Rattle.walk.specs.Marks.{Clipped, plainly, Path, Ready, RankKept, RingShown, Shows, Finished, EntryWalked, StretchWalked}
+use Rattle.walk.specs.Marks.{Clipped, finished, plainly, Path, Ready, RankKept, RingShown, Shows, Finished}
+use Rattle.walk.specs.Marks.{EntryWalked, StretchWalked}
 use Rattle.walk.proofs.Laws.Fits.{rank-low}
 use Rattle.walk.proofs.Laws.Judge.{refsAt-clipped}
 use Rattle.walk.proofs.Laws.Marks.{Path-begun, Path-kept}
 use Rattle.walk.proofs.Laws.Ready.{depth-few, kept-finished, kept-none, kept-rank, kept-refused, kept-stop, kept-more, kept-stored}
-use Rattle.walk.proofs.Laws.Ready.{RankKept-next, ready-next}
+use Rattle.walk.proofs.Laws.Ready.{kept-ranked, RankKept-next, ready-enter, ready-next}
 use Rattle.walk.proofs.Laws.Rings.{ring-past, ring-in}
-use Rattle.walk.proofs.Laws.Walk.{shows-stop, shows-refused, shows-rank, shows-ring, entry-starts, stretch-none, stretch-range}
-use Rattle.walk.proofs.Laws.Walk.{stretch-past, stretch-stops, stretch-goes}
+use Rattle.walk.proofs.Laws.Walk.{shows-stop, shows-refused, shows-rank, shows-ring, entry-ranked, entry-starts, stretch-none}
+use Rattle.walk.proofs.Laws.Walk.{stretch-range, stretch-past, stretch-stops, stretch-goes}
+
+-- entry e is finished: its mark tells its rank, and nothing is walked
+pub entry-known : (rows refs ms : List ℕ) (d e : ℕ) → Ready ms d d → maxEntries < getD ms e 0
+    → EntryWalked rows refs ms d e ms (Ranked (record { 0 = getD ms e 0 - finished }))
+entry-known rows refs ms d e ready big = record {
+  kept = kept-ranked ms e d ready big;
+  shows = λ f p le size path.
+      entry-ranked (tableOf rows refs (length ms)) p ms e (record { 0 = getD ms e 0 - finished }) refl big f;
+}
 
 -- entry e is begun, and the call of its references has left l and answered a
 pub record EntryCalled (rows refs ms : List ℕ) (d e : ℕ) (l : List ℕ) (a : Walked) : Type 0 where
@@ -231,3 +241,15 @@ module _ (rows refs ms₀ : List ℕ) (d e at left end : ℕ) (ms : List ℕ) (b
                   ∙ (stretch-goes T (entry f T p) p ms e best refs i (end - i) some fits below-count (asked true q) l a rank next ranked is
                   (shown f p le size path) ∙ rw one);
             }
+
+        -- it counts and is finished, so that nothing is called
+        module _ (q : c ≡ true) (big : maxEntries < getD ms (getD refs i 0) 0) where
+          known : EntryWalked rows refs ms d (getD refs i 0) ms (Ranked (record { 0 = getD ms (getD refs i 0) 0 - finished }))
+          known = entry-known rows refs ms d (getD refs i 0) (ready-enter ms d best (h .kept .ready)) big
+
+          pub Walking-known-low : getD ms (getD refs i 0) 0 - finished < maxEntries
+          Walking-known-low = Walking-rank-low q ms _ known (record { 0 = getD ms (getD refs i 0) 0 - finished }) refl
+
+          pub Walking-known : (next : ℕ) → next ≡ max best (getD ms (getD refs i 0) 0 - finished + 1)
+              → Walking rows refs ms₀ d e at left end ms next (i + 1)
+          Walking-known next is = Walking-more q ms _ known (record { 0 = getD ms (getD refs i 0) 0 - finished }) refl next is refl

@@ -14,12 +14,12 @@ use Rattle.ranks.specs.Walk.{unstarted}
 use Rattle.rules.specs.Lawful.{tableOf}
 use Rattle.walk.specs.declared.Walked.the-variants.{Ranked, Ring}
 use Rattle.walk.proofs.Laws.Marks.{unstarted-begun}
-use Rattle.walk.proofs.Laws.Ready.{kept-ranked, depth-few, ready-begun, ready-enter}
+use Rattle.walk.proofs.Laws.Ready.{depth-few, ready-begun, ready-enter}
 use Rattle.walk.proofs.Laws.Fits.{few-of, depth-inside, depth-fits, clipped-inside}
-use Rattle.walk.proofs.Laws.Walk.{entry-ranked, entry-again}
-use Rattle.walk.proofs.Laws.Calls.{EntryCalled, same-length, entry-rank-low, entry-finished, entry-ring, entry-refused}
+use Rattle.walk.proofs.Laws.Walk.{entry-again}
+use Rattle.walk.proofs.Laws.Calls.{EntryCalled, entry-known, same-length, entry-rank-low, entry-finished, entry-ring, entry-refused}
 use Rattle.walk.proofs.Laws.Calls.{Walking, Asked, Walking-first, Walking-done, Walking-range, Walking-past, Walking-stops}
-use Rattle.walk.proofs.Laws.Calls.{Walking-rank-low, Walking-more}
+use Rattle.walk.proofs.Laws.Calls.{Walking-rank-low, Walking-more, Walking-known-low, Walking-known}
 use Rattle.walk.proofs.walk.resolve_entry.Reads as resolve-entry
 use Rattle.walk.proofs.walk.resolve_entry.Kinds as resolve-entry-kinds
 use Rattle.walk.proofs.walk.+resolve_entry+resolve_stretch.Lts-resolve_entry as entry-lts
@@ -79,11 +79,7 @@ e-returns : (t : ℕ) → entry-lts.Need-returns (entry-calls t) (entry-at t) re
 e-returns t c =
     let s = c .before .before .before .before .before in
     let a = s .args in
-    record {
-      kept = kept-ranked (a .marks .now) (a .e) (a .depth) (s .pre .1 .1) (c .if1 .taken);
-      shows = λ f p le size path. entry-ranked (tableOf (a .rows .now) (a .refs .now) (length (a .marks .now))) p (a .marks .now)
-          (a .e) _ refl (c .if1 .taken) f;
-    }
+    entry-known (a .rows .now) (a .refs .now) (a .marks .now) (a .depth) (a .e) (s .pre .1 .1) (c .if1 .taken)
 
 -- an entry of the path
 e-returns-2 : (t : ℕ) → entry-lts.Need-returns-2 (entry-calls t) (entry-at t) resolve-entry.Post
@@ -201,10 +197,10 @@ stretch-calls t = (
   row-at-reads.Learnt,
   counts-reads.Asked,
   counts-reads.Learnt,
-  entry-below t,
-  resolve-entry.Post,
   above-reads.Asked,
   above-reads.Learnt,
+  entry-below t,
+  resolve-entry.Post,
 )
 
 abbrev Inv-loop : stretch-lts.InvT-loop
@@ -251,9 +247,27 @@ s-loop-again t c =
     (w .best .0) (w .i) (w .inv) (g .before .before .before .before .before .loop-test .taken) (g .counts .result) (asked-at t g)
     (not-true _ (c .if2 .taken))
 
+s-above-requires : (t : ℕ) → stretch-lts.Need-above-requires (stretch-calls t) (stretch-at t) resolve-stretch.Post Inv-loop μ-loop
+s-above-requires t c κs =
+    let g = c .before .before .before in
+    let a = g .before .before .before .before .before .before .before .before .before .before .args in
+    let w = g .before .before .before .before .before .before .loop in
+    Walking-known-low (a .rows .now) (a .refs .now) (a .marks .now) (a .depth) (a .e) (a .at) (a .left) (a .at + a .left) (w .marks)
+    (w .best .0) (w .i) (w .inv) (g .before .before .before .before .before .loop-test .taken) (g .counts .result) (asked-at t g)
+    (not-false _ (c .before .before .if2 .left)) (c .if3 .taken)
+
+s-loop-again-2 : (t : ℕ) → stretch-lts.Need-loop-again-2 (stretch-calls t) (stretch-at t) resolve-stretch.Post Inv-loop μ-loop
+s-loop-again-2 t c =
+    let g = c .before .before .before .before in
+    let a = g .before .before .before .before .before .before .before .before .before .before .args in
+    let w = g .before .before .before .before .before .before .loop in
+    Walking-known (a .rows .now) (a .refs .now) (a .marks .now) (a .depth) (a .e) (a .at) (a .left) (a .at + a .left) (w .marks)
+    (w .best .0) (w .i) (w .inv) (g .before .before .before .before .before .loop-test .taken) (g .counts .result) (asked-at t g)
+    (not-false _ (c .before .before .before .if2 .left)) (c .before .if3 .taken) (c .above .result .0) (c .above .ensures)
+
 s-entry-requires : (t : ℕ) → stretch-lts.Need-resolve-entry-requires (stretch-calls t) (stretch-at t) resolve-stretch.Post Inv-loop μ-loop
 s-entry-requires t c κs =
-    let g = c .before .before in
+    let g = c .before .before .before .before in
     let s = g .before .before .before .before .before .before .before .before .before .before in
     let w = g .before .before .before .before .before .before .loop in (
       omega (arith, s .pre .0, w .inv .kept .fewer),
@@ -264,38 +278,38 @@ s-entry-requires t c κs =
       ),
     )
 
-s-above-requires : (t : ℕ) → stretch-lts.Need-above-requires (stretch-calls t) (stretch-at t) resolve-stretch.Post Inv-loop μ-loop
-s-above-requires t c κs =
-    let g = c .before .before .before .before .before .before .before .before in
+s-above-requires-2 : (t : ℕ) → stretch-lts.Need-above-requires-2 (stretch-calls t) (stretch-at t) resolve-stretch.Post Inv-loop μ-loop
+s-above-requires-2 t c κs =
+    let g = c .before .before .before .before .before .before .before .before .before .before in
     let a = g .before .before .before .before .before .before .before .before .before .before .args in
     let w = g .before .before .before .before .before .before .loop in
     let call = c .before .before .before .before .before .resolve-entry in
     Walking-rank-low (a .rows .now) (a .refs .now) (a .marks .now) (a .depth) (a .e) (a .at) (a .left) (a .at + a .left) (w .marks)
     (w .best .0) (w .i) (w .inv) (g .before .before .before .before .before .loop-test .taken) (g .counts .result) (asked-at t g)
-    (not-false _ (c .before .before .before .before .before .before .before .if2 .left))
+    (not-false _ (c .before .before .before .before .before .before .before .before .before .if2 .left))
     (call .last .1 .1 .0) (call .result) (call .ensures) (c .before .rank .given .0 .0) (c .before .rank .given .1)
 
-s-loop-again-2 : (t : ℕ) → stretch-lts.Need-loop-again-2 (stretch-calls t) (stretch-at t) resolve-stretch.Post Inv-loop μ-loop
-s-loop-again-2 t c =
-    let g = c .before .before .before .before .before .before .before .before .before in
+s-loop-again-3 : (t : ℕ) → stretch-lts.Need-loop-again-3 (stretch-calls t) (stretch-at t) resolve-stretch.Post Inv-loop μ-loop
+s-loop-again-3 t c =
+    let g = c .before .before .before .before .before .before .before .before .before .before .before in
     let a = g .before .before .before .before .before .before .before .before .before .before .args in
     let w = g .before .before .before .before .before .before .loop in
     let call = c .before .before .before .before .before .before .resolve-entry in
     Walking-more (a .rows .now) (a .refs .now) (a .marks .now) (a .depth) (a .e) (a .at) (a .left) (a .at + a .left) (w .marks)
     (w .best .0) (w .i) (w .inv) (g .before .before .before .before .before .loop-test .taken) (g .counts .result) (asked-at t g)
-    (not-false _ (c .before .before .before .before .before .before .before .before .if2 .left))
+    (not-false _ (c .before .before .before .before .before .before .before .before .before .before .if2 .left))
     (call .last .1 .1 .0) (call .result) (call .ensures) (c .before .before .rank .given .0 .0) (c .before .before .rank .given .1)
-    (c .above .result .0) (c .above .ensures) (call .kept .1 .1 .0)
+    (c .above2 .result .0) (c .above2 .ensures) (call .kept .1 .1 .0)
 
 s-returns-2 : (t : ℕ) → stretch-lts.Need-returns-2 (stretch-calls t) (stretch-at t) resolve-stretch.Post Inv-loop μ-loop
 s-returns-2 t c =
-    let g = c .before .before .before .before .before .before in
+    let g = c .before .before .before .before .before .before .before .before in
     let a = g .before .before .before .before .before .before .before .before .before .before .args in
     let w = g .before .before .before .before .before .before .loop in
     let call = c .before .before .before .resolve-entry in
     Walking-stops (a .rows .now) (a .refs .now) (a .marks .now) (a .depth) (a .e) (a .at) (a .left) (a .at + a .left) (w .marks)
     (w .best .0) (w .i) (w .inv) (g .before .before .before .before .before .loop-test .taken) (g .counts .result) (asked-at t g)
-    (not-false _ (c .before .before .before .before .before .if2 .left))
+    (not-false _ (c .before .before .before .before .before .before .before .if2 .left))
     (call .last .1 .1 .0) (call .result) (call .ensures) (c .match .keys2)
 
 s-returns-3 : (t : ℕ) → stretch-lts.Need-returns-3 (stretch-calls t) (stretch-at t) resolve-stretch.Post Inv-loop μ-loop
@@ -355,10 +369,16 @@ pub +resolve-entry+resolve-stretch-spec : {M : Type 1} → statement M
     (λ c. search needs)
     (λ c. search needs)
     (s-loop-again t)
-    (s-entry-requires t)
+    (λ c. search needs)
     (λ c. search needs)
     (s-above-requires t)
-    (λ c. let g = c .before .before .before .before .before .before .before .before .before in record {
+    (λ c. search needs)
+    (λ c. search needs)
+    (s-loop-again-2 t)
+    (s-entry-requires t)
+    (λ c. search needs)
+    (s-above-requires-2 t)
+    (λ c. let g = c .before .before .before .before .before .before .before .before .before .before .before in record {
       fits = omega (
         arith,
         g .before .before .before .before .before .loop-test .taken,
@@ -367,8 +387,8 @@ pub +resolve-entry+resolve-stretch-spec : {M : Type 1} → statement M
       );
     })
     (λ c. search needs)
-    (s-loop-again-2 t)
-    (λ c. let g = c .before .before .before .before .before .before in c .before .before .before .resolve-entry .kept .1 .1 .0
+    (s-loop-again-3 t)
+    (λ c. let g = c .before .before .before .before .before .before .before .before in c .before .before .before .resolve-entry .kept .1 .1 .0
     ∙ g .before .before .before .before .before .before .loop .inv .sized)
     (s-returns-2 t)
     (λ c. c .before .loop .inv .sized)
