@@ -5,5 +5,6 @@ pub mod Ready
 pub mod Rings
 pub mod Walk
 pub mod Calls
+pub mod Walking
 pub mod Pass
 pub mod Witness

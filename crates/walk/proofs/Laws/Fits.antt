@@ -1,21 +1,10 @@
 -- That the numbers of the walk fit, over plain numbers.
 -- Assumes nothing.
-use Prim.Native.Nat.{ℕ, _+_, _-_, _≤_, _<_}
+use Prim.Native.Nat.{ℕ, _+_, _≤_, _<_}
 use native.Mathlib.Omega.{arith}
-use mir.Syntax.{w64}
-use mir.Val.{Fits}
 use Rattle.rules.specs.Lawful.{maxEntries}
 use Rattle.walk.specs.declared.judge.Stretch.{Stretch}
-use Rattle.walk.specs.Marks.{Clipped, finished}
-
-pub few-of : {m : ℕ} → m < finished → m ≤ maxEntries
-few-of h = omega arith
-
-pub depth-inside : (d u n : ℕ) → d + u ≤ n → d ≤ n
-depth-inside d u n h = omega arith
-
-pub depth-fits : (d : ℕ) → d + 1 ≤ maxEntries → Fits w64 (d + 1)
-depth-fits d h = record { fits = omega arith }
+use Rattle.walk.specs.Marks.{Clipped}
 
 pub rank-low : (k d u n : ℕ) → n ≤ maxEntries → k + (d + 1) + u ≤ n → k < maxEntries
 rank-low k d u n few room = omega arith

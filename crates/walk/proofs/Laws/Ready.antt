@@ -6,6 +6,8 @@ use mathlib.Core.List.{List}
 use Prim.Native.Nat.{ℕ, _+_, _-_, _≤_, _<_, max}
 use native.Mathlib.Omega.{arith}
 use native.Mathlib.Decide.{ℕ-discrete}
+use mir.Syntax.{w64}
+use mir.Val.{Fits}
 use lib.ListN.{length, getD, set, replicate, length-set, length-replicate}
 use lib.Seq.{getD-set-same, getD-set-other}
 use denote.Enum.Declared.{tagOf}
@@ -28,18 +30,27 @@ kept-ranked ms e d h big = record {
   begun = λ x some few. refl;
 }
 
--- an entry that is begun
-module _ (ms : List ℕ) (e d : ℕ) (lt : e < length ms) (new : getD ms e 0 ≡ 0) (h : Ready ms d d) where
-  fewer : unstarted (set ms e (d + 1)) + 1 ≡ unstarted ms
-  fewer = unstarted-begun ms e d lt new
+-- an entry that is not started, met at depth d
+pub record Fresh (ms : List ℕ) (d e : ℕ) : Type 0 where
+  pub lt : e < length ms
+  pub new : getD ms e 0 ≡ 0
+  pub ready : Ready ms d d
+
+-- it is begun
+module _ {ms : List ℕ} {d e : ℕ} (h : Fresh ms d e) where
+  pub fresh-fewer : unstarted (set ms e (d + 1)) + 1 ≡ unstarted ms
+  fresh-fewer = unstarted-begun ms e d (h .lt) (h .new)
 
   pub depth-few : d + 1 ≤ maxEntries
-  depth-few = omega (arith, h .room, h .few, fewer)
+  depth-few = omega (arith, h .ready .room, h .ready .few, fresh-fewer)
+
+  pub depth-fits : Fits w64 (d + 1)
+  depth-fits = record { fits = omega (arith, depth-few) }
 
   pub ready-begun : Ready (set ms e (d + 1)) (d + 1) (d + 1)
   ready-begun = record {
-    few = simp length-set (h .few);
-    room = simp length-set (omega (arith, h .room, fewer));
+    few = simp length-set (h .ready .few);
+    room = simp length-set (omega (arith, h .ready .room, fresh-fewer));
     low = λ x. low x
         (ℕ-discrete x e);
   }
@@ -47,21 +58,21 @@ module _ (ms : List ℕ) (e d : ℕ) (lt : e < length ms) (new : getD ms e 0 ≡
       low : (x : ℕ) → Dec (x ≡ e) → maxEntries < getD (set ms e (d + 1)) x 0
           → getD (set ms e (d + 1)) x 0 + (d + 1) + unstarted (set ms e (d + 1)) < length (set ms e (d + 1)) + finished
       low x (yes q) big =
-          let v : getD (set ms e (d + 1)) x 0 ≡ d + 1 = rw q (getD-set-same ms e (d + 1) 0 lt) in
+          let v : getD (set ms e (d + 1)) x 0 ≡ d + 1 = rw q (getD-set-same ms e (d + 1) 0 (h .lt)) in
           absurd (omega (arith, depth-few))
       low x (no n) big =
           let v : getD (set ms e (d + 1)) x 0 ≡ getD ms x 0 = getD-set-other ms e x (d + 1) 0 n in
-          let old = h .low x (rw v at big) in
-          rw v (simp length-set (omega (arith, fewer)))
+          let old = h .ready .low x (rw v at big) in
+          rw v (simp length-set (omega (arith, fresh-fewer)))
 
   -- and finished, after its references
-  module _ (l : List ℕ) (k : ℕ) (len : length l ≡ length ms) (walked : RankKept (set ms e (d + 1)) l (d + 1) (k + (d + 1))) where
+  module _ {l : List ℕ} (k : ℕ) (len : length l ≡ length ms) (walked : RankKept (set ms e (d + 1)) l (d + 1) (k + (d + 1))) where
     stored : unstarted (set l e (k + finished)) ≤ unstarted l
-    stored = unstarted-finished l e k (omega arith)
+    stored = unstarted-finished l e k (omega (arith, h .lt))
 
     pub kept-finished : RankKept ms (set l e (k + finished)) d (k + (d + 1))
     kept-finished = record {
-      fewer = omega (arith, fewer, stored, walked .fewer);
+      fewer = omega (arith, fresh-fewer, stored, walked .fewer);
       ready = record {
         few = simp length-set (walked .ready .few);
         room = simp length-set (omega (arith, walked .ready .room, stored));
@@ -72,7 +83,7 @@ module _ (ms : List ℕ) (e d : ℕ) (lt : e < length ms) (new : getD ms e 0 ≡
     }
       where
         at-e : getD (set l e (k + finished)) e 0 ≡ k + finished
-        at-e = getD-set-same l e (k + finished) 0 (omega arith)
+        at-e = getD-set-same l e (k + finished) 0 (omega (arith, h .lt))
 
         low : (x : ℕ) → Dec (x ≡ e) → maxEntries < getD (set l e (k + finished)) x 0
             → getD (set l e (k + finished)) x 0 + d + unstarted (set l e (k + finished)) < length (set l e (k + finished)) + finished
@@ -83,7 +94,7 @@ module _ (ms : List ℕ) (e d : ℕ) (lt : e < length ms) (new : getD ms e 0 ≡
             rw v (simp length-set (omega (arith, stored)))
 
         same : (x : ℕ) → 0 < getD ms x 0 → Dec (x ≡ e) → getD (set l e (k + finished)) x 0 ≡ getD ms x 0
-        same x some (yes q) = let z = rw q at some in absurd (omega arith)
+        same x some (yes q) = let z = rw q at some in absurd (omega (arith, h .new))
         same x some (no n) =
             let v : getD (set ms e (d + 1)) x 0 ≡ getD ms x 0 = getD-set-other ms e x (d + 1) 0 n in
             getD-set-other l e x (k + finished) 0 n ∙ walked .same x (rw v some) ∙ v
@@ -119,8 +130,8 @@ pub ready-next : (ms l : List ℕ) (d best k next : ℕ) → Ready ms d (best + 
 ready-next ms l d best k next h len q w =
     record { few = w .ready .few; room = omega (arith, h .room, w .fewer, w .ready .room); low = w .ready .low }
 
-pub ready-enter : (ms : List ℕ) (d best : ℕ) → Ready ms d (best + d) → Ready ms d d
-ready-enter ms d best h = record { few = h .few; room = omega (arith, h .room); low = h .low }
+pub ready-enter : {ms : List ℕ} {d : ℕ} (best : ℕ) → Ready ms d (best + d) → Ready ms d d
+ready-enter best h = record { few = h .few; room = omega (arith, h .room); low = h .low }
 
 pub ready-first : (n : ℕ) (ms : List ℕ) → ms ≡ replicate n 0 → n ≤ maxEntries → Ready ms 0 0
 ready-first n ms q h =
