@@ -21,7 +21,7 @@ const ASCII_END: u8 = 128;
 
 // One search for both: where the part that starts at `from` ends, at `separator` or at the end of the string, or where a byte
 // that is not ASCII stands before that.
-fn ascii_part_end(value: &[u8], from: usize, separator: u8) -> usize
+pub fn ascii_part_end(value: &[u8], from: usize, separator: u8) -> usize
     ensures { λ r. ⌜ r ≡ min (endOf separator (now (value .entry)) from)
         (from + asciiUpTo (drop from (now (value .entry)))) ⌝ }
 {

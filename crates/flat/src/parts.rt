@@ -16,7 +16,7 @@ pub(crate) const TYPE_WORDS: usize = 4;
 
 pub(crate) const POINTER_WORDS: usize = 5;
 
-fn endian_word(e: Endian) -> u64
+pub(crate) fn endian_word(e: Endian) -> u64
     ensures { λ r. ⌜ r ≡ endianWord e ⌝ }
 {
     match e {
@@ -34,7 +34,7 @@ fn stack_word(a: MaybeAlign) -> u64
     }
 }
 
-fn function_kind(f: FunctionPointerAlign) -> u64
+pub(crate) fn function_kind(f: FunctionPointerAlign) -> u64
     ensures { λ r. ⌜ r ≡ functionKind f ⌝ }
 {
     match f {
@@ -44,7 +44,7 @@ fn function_kind(f: FunctionPointerAlign) -> u64
     }
 }
 
-fn function_bits(f: FunctionPointerAlign) -> u64
+pub(crate) fn function_bits(f: FunctionPointerAlign) -> u64
     ensures { λ r. ⌜ r ≡ functionBits f ⌝ }
 {
     match f {
@@ -54,7 +54,7 @@ fn function_bits(f: FunctionPointerAlign) -> u64
     }
 }
 
-fn mangling_word(m: Mangling) -> u64
+pub(crate) fn mangling_word(m: Mangling) -> u64
     ensures { λ r. ⌜ r ≡ manglingWord m ⌝ }
 {
     match m {

@@ -1,6 +1,6 @@
 // The layout's words over the front of a lent buffer: part behind part. Where the buffer ends nothing more is written.
 ghost use mathlib.Core.Path.{_≡_};
-ghost use Prim.Native.Nat.{_≤_, min};
+ghost use Prim.Native.Nat.{_≤_};
 ghost use Rattle.flat.specs.Words.{numbersWords, typesWords, pointersWords, layoutWords};
 ghost use Rattle.flat.specs.Puts.{Behind, Part, Puts, maxWords};
 use crate::parts::HEAD_WORDS;
@@ -16,19 +16,14 @@ use layout::pointers::PointerAlignSpecs;
 use layout::record::DataLayout;
 use layout::types::MAX_TYPE_ROWS;
 use layout::types::TypeAlignSpecs;
+use table::buffer::least;
 use table::buffer::put_words;
 
 // No layout has more words: nine, 16 widths and 16 spaces with their counts, 64 type rows of four and 32 pointer rows of five with theirs.
 pub const LAYOUT_WORDS: usize = 461;
 
-fn least(a: usize, b: usize) -> usize
-    ensures { λ r. ⌜ r ≡ min a b ⌝ }
-{
-    if a <= b { a } else { b }
-}
-
 // What does not fit behind the first `at` is not written.
-fn put_behind(out: &mut [u64], at: usize, src: &[u64])
+pub(crate) fn put_behind(out: &mut [u64], at: usize, src: &[u64])
     ensures { λ _. ⌜ Behind (now (src .entry)) at (now (out .entry)) (now (out .exit)) ⌝ }
 {
     if out.len() <= at {
@@ -37,7 +32,7 @@ fn put_behind(out: &mut [u64], at: usize, src: &[u64])
     put_words(&mut out[at..], src);
 }
 
-fn put_numbers(out: &mut [u64], at: usize, numbers: Numbers) -> usize
+pub(crate) fn put_numbers(out: &mut [u64], at: usize, numbers: Numbers) -> usize
     requires { ⌜ at ≤ maxWords ⌝ }
     ensures { λ r. ⌜ Part (numbersWords numbers) 17 at (now (out .entry)) r (now (out .exit)) ⌝ }
 {

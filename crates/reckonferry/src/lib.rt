@@ -11,13 +11,11 @@ ghost use Rattle.checker.specs.Checked.{checked};
 ghost use Rattle.lookup.specs.Names.{stretchOf, hasName, startOf, lengthOf};
 ghost use Rattle.reckonferry.specs.Library.{answerWords, ReadsTable, ReadsLayout};
 use checker::check::check;
-use datalayout::map::from_str;
 use ferry::Answer;
 use ferry::read::read_table;
-use flat::put::put_layout;
+use flat::read::read_layout;
 use lookup::has_name;
 use table::TypeRef;
-use table::buffer::clear_words;
 use table::buffer::put_words;
 use table::row::row_at;
 
@@ -153,8 +151,8 @@ pub extern "C" fn reckonferry_read_layout(
     ensures { λ r. ⌜ ReadsLayout (now (value .entry)) (now (answer .entry)) (now (layout .entry))
         r (now (answer .exit)) (now (layout .exit)) ⌝ }
 {
-    let mapped = from_str(value);
-    let said = mapped.answer;
+    let laid = read_layout(value, layout);
+    let said = laid.answer;
     let refusal = said.refusal();
     put_three(
         answer,
@@ -162,7 +160,5 @@ pub extern "C" fn reckonferry_read_layout(
         refusal.place as u64,
         refusal.detail as u64,
     );
-    clear_words(layout);
-    let read = mapped.layout;
-    put_layout(layout, read)
+    laid.words
 }

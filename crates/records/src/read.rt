@@ -1,7 +1,7 @@
 // "Order: 1 over the whole stream; NumEntry; records in order ..; 10" (01, "Refusal numbers"), and the last sweep over the outputs.
 ghost use mathlib.Core.Path.{_≡_};
 ghost use mathlib.Core.Bool.{cond};
-ghost use Prim.Native.Nat.{_*_, _≤_, _<_, _^_, min};
+ghost use Prim.Native.Nat.{_*_, _≤_, _<_, _^_};
 ghost use lib.Dec.{eqb};
 ghost use lib.ListN.{length};
 ghost use Rattle.table.specs.Rows.{rowWords};
@@ -20,6 +20,7 @@ use stream::Stated;
 use stream::survey_of;
 use table::buffer::clear_bytes;
 use table::buffer::clear_words;
+use table::buffer::least;
 use table::row;
 use table::row::ROW_WORDS;
 use table::row::entry_room;
@@ -89,12 +90,6 @@ fn first_pass(
             Ended::AtRecord(number, fault) => keep_none(Answer::BadRecord(number as u64, fault)),
         },
     }
-}
-
-fn least(a: usize, b: usize) -> usize
-    ensures { λ r. ⌜ r ≡ min a b ⌝ }
-{
-    if a <= b { a } else { b }
 }
 
 // The outputs may hold anything; afterwards they hold the table and zeros behind it, or zeros. Of the witness only the length counts.

@@ -5,7 +5,8 @@ ghost use Prim.Native.Nat.{min};
 ghost use lib.ListN.{length};
 ghost use Rattle.table.specs.Buffers.{over, zeros, lowBytes};
 
-fn least(a: usize, b: usize) -> usize
+// "the least of 4,096, rows length / 8 rounded down, and witness length" (01): of two numbers.
+pub fn least(a: usize, b: usize) -> usize
     ensures { λ r. ⌜ r ≡ min a b ⌝ }
 {
     if a <= b { a } else { b }

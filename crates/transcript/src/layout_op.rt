@@ -5,9 +5,8 @@ use crate::out::HEAD_BYTES;
 use crate::out::put_words;
 use crate::told::Told;
 use crate::told::put_told;
-use datalayout::map::from_str;
 use flat::put::LAYOUT_WORDS;
-use flat::put::put_layout;
+use flat::read::read_layout;
 use table::buffer::put_bytes;
 
 fn put_layout_words(answer: &mut [u8], at: usize, words: &[u64], count: usize) -> usize {
@@ -19,8 +18,9 @@ fn put_layout_words(answer: &mut [u8], at: usize, words: &[u64], count: usize) -
 
 // "number, place, detail (0, 0, 0: accepted), then the layout"
 fn put_mapped(value: &[u8], answer: &mut [u8]) -> usize {
-    let mapped = from_str(value);
-    let given = mapped.answer;
+    let mut words = [0u64; LAYOUT_WORDS];
+    let laid = read_layout(value, &mut words);
+    let given = laid.answer;
     let refusal = given.refusal();
     let told = Told {
         number: refusal.number,
@@ -28,10 +28,7 @@ fn put_mapped(value: &[u8], answer: &mut [u8]) -> usize {
         detail: refusal.detail as u64,
     };
     let at = put_told(answer, told);
-    let layout = mapped.layout;
-    let mut words = [0u64; LAYOUT_WORDS];
-    let count = put_layout(&mut words, layout);
-    put_layout_words(answer, at, &words, count)
+    put_layout_words(answer, at, &words, laid.words)
 }
 
 // A string whose bytes are words here.

@@ -2,12 +2,13 @@
 ghost use mathlib.Core.Path.{_≡_};
 ghost use mathlib.Core.Bool.{cond};
 ghost use mathlib.Core.List.{map};
-ghost use Prim.Native.Nat.{_-_, min};
+ghost use Prim.Native.Nat.{_-_};
 ghost use lib.Dec.{leb};
 ghost use lib.ListN.{set};
 ghost use Rattle.walk.specs.Resolve.{entriesOf};
 ghost use Rattle.walk.specs.Marks.{ranked};
 use rules::MAX_ENTRIES;
+use table::buffer::least;
 use table::row::entry_room;
 
 pub const FINISHED: u64 = MAX_ENTRIES + 1;
@@ -18,19 +19,13 @@ pub(crate) fn less(a: usize, b: usize) -> usize
     if b <= a { a - b } else { 0 }
 }
 
-fn lesser(a: usize, b: usize) -> usize
-    ensures { λ r. ⌜ r ≡ min a b ⌝ }
-{
-    if a < b { a } else { b }
-}
-
 // As many entries as rows of so many words, a witness of that room and 4,096 have place for.
 pub(crate) fn entries(count: usize, words: usize, room: usize) -> usize
     ensures { λ r. ⌜ r ≡ entriesOf count words room ⌝ }
 {
-    lesser(
+    least(
         count,
-        lesser(entry_room(words), lesser(room, MAX_ENTRIES as usize)),
+        least(entry_room(words), least(room, MAX_ENTRIES as usize)),
     )
 }
 

@@ -166,7 +166,7 @@ module _ (l : DataLayout) (s : Sound l) where
   spec-sound (Numbered listed) numbers h k = numbers-sound listed numbers k
   spec-sound (Refused fault) numbers h k = s
 
-  after-sound : (spec : List ℕ) → Sound (after l spec .layout)
+  pub after-sound : (spec : List ℕ) → Sound (after l spec .layout)
   unfolding applied
   after-sound spec = let h = specIn-sound spec in spec-sound (specIn spec .spec) (specIn spec .numbers) (h .0) (h .1)
 

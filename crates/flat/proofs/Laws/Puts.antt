@@ -67,7 +67,7 @@ module _ {A : Type 0} (words : A → List ℕ) where
   runOf-more rows i d lt = rw (add-one, take-suc rows i d lt) (runOf-snoc (take i rows) (getD rows i d))
 
   module _ (wide : ℕ) (each : (row : A) → length (words row) ≡ wide) where
-    length-runOf : (rows : List A) → length (runOf words rows) ≡ length rows * wide
+    pub length-runOf : (rows : List A) → length (runOf words rows) ≡ length rows * wide
     unfolding runOf
     length-runOf [] = sym (zero-mul wide)
     length-runOf (row ∷ rows) =

@@ -1,5 +1,5 @@
 -- Laws of specs/Library.antt.
---     ReadsTable-of-read, ReadsLayout-of-mapped     an exported contract from those of the calls
+--     ReadsTable-of-read, ReadsLayout-of-laid       an exported contract from those of the calls
 --     ReadsTable-unique, ReadsLayout-unique         no second answer fits
 -- Assumes nothing.
 use mathlib.Core.Path.{_≡_, refl, sym, ap, subst, _∙_}
@@ -10,10 +10,11 @@ use Rattle.table.specs.Buffers.{over, zeros}
 use Rattle.ferry.specs.declared.Answer.{Answer}
 use Rattle.ferry.specs.Reader.{Lent, Reads}
 use Rattle.datalayout.specs.declared.answer.Refusal.{Refusal}
-use Rattle.datalayout.specs.declared.map.Mapped.{Mapped}
 use Rattle.datalayout.specs.Answers.{refusalOf}
 use Rattle.datalayout.specs.Strings.{mapped}
+use Rattle.flat.specs.declared.read.Laid.{Laid}
 use Rattle.flat.specs.Words.{layoutWords}
+use Rattle.flat.specs.Reads as flat
 use Rattle.flat.specs.Puts.{Puts}
 use Rattle.flat.proofs.Laws.Puts.{Puts-unique}
 use Rattle.reckonferry.specs.Library.{answerWords, ReadsTable, refusalWords, ReadsLayout}
@@ -33,17 +34,12 @@ ReadsTable-of-read words lent a rows refs names witness answer₀ answer h is = 
   answer-is = is ∙ ap (λ (b : Answer). over (answerWords b) answer₀) (h .answer);
 }
 
-pub ReadsLayout-of-mapped : (value answer₀ layout₀ answer clear layout : List ℕ) (m : Mapped) (r : Refusal) (count : ℕ)
-    → m ≡ mapped value → r ≡ refusalOf (m .answer) → answer ≡ over (r .number ∷ r .place ∷ r .detail ∷ []) answer₀
-    → clear ≡ zeros (length layout₀) → Puts (layoutWords (m .layout)) clear count layout
-    → ReadsLayout value answer₀ layout₀ count answer layout
-ReadsLayout-of-mapped value answer₀ layout₀ answer clear layout m r count is-m is-r is-answer is-clear puts = record {
-  answer-is =
-      is-answer
-      ∙ ap (λ (s : Refusal). over (refusalWords s) answer₀) (is-r ∙ ap (λ (n : Mapped). refusalOf (n .answer)) is-m);
-  layout-is =
-      subst (λ (n : Mapped). Puts (layoutWords (n .layout)) (zeros (length layout₀)) count layout) is-m
-      (subst (λ (l : List ℕ). Puts (layoutWords (m .layout)) l count layout) is-clear puts);
+pub ReadsLayout-of-laid : (value answer₀ layout₀ answer layout : List ℕ) (laid : Laid) (r : Refusal)
+    → flat.Reads (mapped value) layout₀ laid layout → r ≡ refusalOf (laid .answer)
+    → answer ≡ over (r .number ∷ r .place ∷ r .detail ∷ []) answer₀ → ReadsLayout value answer₀ layout₀ (laid .words) answer layout
+ReadsLayout-of-laid value answer₀ layout₀ answer layout laid r read is-r is-answer = record {
+  answer-is = is-answer ∙ ap (λ (s : Refusal). over (refusalWords s) answer₀) (is-r ∙ ap refusalOf (read .answer-is));
+  layout-is = read .layout-is;
 }
 
 pub ReadsTable-unique : (words : List ℕ) (lent : Lent) (b r s f g m n w v a c : List ℕ) → ReadsTable words lent b r f m w a

@@ -1,4 +1,4 @@
--- Laws of specs/Buffers.antt: a run laid over a buffer step by step (words, bytes and zeros alike), and behind another run.
+-- Laws of specs/Buffers.antt: zeros; a run laid over a buffer step by step (words, bytes and zeros alike), and behind another run.
 --     Laid run rest i l     l is rest with the first i of run laid over its front
 --     storedFrom i run l    l with run stored word by word from place i on
 --     over-rest             a run laid behind another; over-again: in place of a shorter one; padded-rest: zeros behind it
@@ -15,6 +15,19 @@ use lib.Seq.{drop-cons, take-suc, set-at, append-snoc, length-take-le, drop-drop
 use lib.Seq.{drop-append-seam, take-append-seam, take-append-le}
 use Rattle.laws.proofs.Rests.{rest-part, rest-none}
 use Rattle.table.specs.Buffers.{over, zeros, padded, lowBytes}
+
+pub length-zeros : (n : ℕ) → length (zeros n) ≡ n
+length-zeros n = length-replicate n 0
+
+pub take-zeros : (k n : ℕ) → k ≤ n → take k (zeros n) ≡ zeros k
+take-zeros zero n h = refl
+take-zeros (suc k) zero h = absurd (omega arith)
+take-zeros (suc k) (suc n) h = ap (λ (l : List ℕ). 0 ∷ l) (take-zeros k n (omega arith))
+
+pub drop-zeros : (k n : ℕ) → drop k (zeros n) ≡ zeros (n - k)
+drop-zeros zero n = let z : n - 0 ≡ n = omega arith in rw z
+drop-zeros (suc k) zero = let z : 0 - suc k ≡ 0 = omega arith in rw z
+drop-zeros (suc k) (suc n) = let z : suc n - suc k ≡ n - k = omega arith in rw z (drop-zeros k n)
 
 pub padded-none : (room : ℕ) → padded room [] ≡ zeros room
 unfolding padded
@@ -85,7 +98,7 @@ stored-agrees-over (v ∷ run) (x ∷ l) = storedFrom-cons v 0 run l ∙ ap (λ 
 pub over-zeros : (l : List ℕ) → over (zeros (length l)) l ≡ zeros (length l)
 unfolding over
 over-zeros l =
-    let long : length (zeros (length l)) ≡ length l = length-replicate (length l) 0 in
+    let long = length-zeros (length l) in
     rw (long, take-all (length l) (zeros (length l)) (omega arith), drop-length l, append-nil)
 
 pub length-lowBytes : (ws : List ℕ) → length (lowBytes ws) ≡ length ws

@@ -3,14 +3,14 @@
 use mathlib.Core.Path.{_≡_, refl, sym, ap, _∙_}
 use mathlib.Core.Bool.{Bool, true, false}
 use mathlib.Core.List.{List, [], _∷_, _++_, map, append-nil, append-assoc}
-use Prim.Native.Nat.{ℕ, zero, suc, _+_, _-_, _≤_}
+use Prim.Native.Nat.{ℕ, _+_, _-_, _≤_}
 use native.Mathlib.Omega.{arith}
 use lib.Dec.{ltb, leb}
 use borrow.Author.Tests.{ltb-true, ltb-false, leb-true, leb-false}
-use lib.ListN.{length, take, drop, length-map, length-append, length-replicate, replicate-append-replicate}
+use lib.ListN.{length, take, drop, length-map, length-append, replicate-append-replicate}
 use denote.Enum.Declared.{tagOf}
 use Rattle.table.specs.Buffers.{zeros, padded}
-use Rattle.table.proofs.Laws.Buffers.{padded-none}
+use Rattle.table.proofs.Laws.Buffers.{length-zeros, take-zeros, drop-zeros, padded-none}
 use Rattle.ranks.specs.Walk as ranks
 use Rattle.ranks.specs.Walk.{resolve, ranksOf}
 use Rattle.rules.specs.Lawful.{maxEntries, tableOf}
@@ -95,27 +95,16 @@ resolves-longer rows refs n room r last all h len le is =
           ∙ padded-longer xs n room short le);
     }
 
-take-zeros : (n room : ℕ) → n ≤ room → take n (zeros room) ≡ zeros n
-take-zeros zero zero h = refl
-take-zeros zero (suc room) h = refl
-take-zeros (suc n) zero h = absurd (omega arith)
-take-zeros (suc n) (suc room) h = ap (λ (l : List ℕ). 0 ∷ l) (take-zeros n room (omega arith))
-
-drop-zeros : (n room : ℕ) → drop n (zeros room) ≡ zeros (room - n)
-drop-zeros zero room = let e : room - 0 ≡ room = omega arith in rw e
-drop-zeros (suc n) zero = let e : 0 - suc n ≡ 0 = omega arith in rw e
-drop-zeros (suc n) (suc room) = let e : suc room - suc n ≡ room - n = omega arith in rw e (drop-zeros n room)
-
 -- the part of the cleared witness z that is lent
 module _ (count words room n : ℕ) (z : List ℕ) (asked : n ≡ entriesOf count words (length z)) (cleared : z ≡ zeros room) where
   is : n ≡ entriesOf count words room
-  is = let long : length z ≡ room = rw cleared (length-replicate room 0) in rw long at asked
+  is = let long : length z ≡ room = rw cleared (length-zeros room) in rw long at asked
 
   part : take n z ≡ zeros n
   part = rw cleared (take-zeros n room (omega (arith, is)))
 
   pub lent-length : length (take n z) ≡ n
-  lent-length = rw part (length-replicate n 0)
+  lent-length = rw part (length-zeros n)
 
   pub lent-few : length (take n z) ≤ maxEntries
   lent-few = omega (arith, lent-length, is)

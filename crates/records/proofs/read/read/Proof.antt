@@ -11,13 +11,13 @@ use Rattle.records.specs.Held.{buffersOf, roomIn}
 use Rattle.records.proofs.Laws.Passing.{Left-fits, Left-shown}
 use Rattle.table.proofs.buffer.clear_bytes.Reads as clear-bytes-reads
 use Rattle.table.proofs.buffer.clear_words.Reads as clear-words-reads
+use Rattle.table.proofs.buffer.least.Reads as least-reads
 use Rattle.table.proofs.row.entry_room.Reads as entry-room-reads
 use Rattle.records.proofs.read.read.Statement.{statement}
 use Rattle.records.proofs.read.read.Tie as tie
 use Rattle.records.proofs.read.read.Reads as reads
 use Rattle.records.proofs.read.read.Lts as lts
 use Rattle.records.proofs.read.first_pass.Reads as first-pass-reads
-use Rattle.records.proofs.read.least.Reads as least-reads
 
 -- what is kept of each output lies in it
 abbrev Passed : Type 0
