@@ -2,7 +2,7 @@
 -- holds of the second pass over them (resolve/proofs/Promises).
 -- Assumes nothing.
 use mathlib.Core.Path.{_≡_, refl, sym, ap, _∙_}
-use mathlib.Core.Bool.{true, _&&_}
+use mathlib.Core.Bool.{true}
 use mathlib.Core.List.{List}
 use Prim.Native.Nat.{ℕ, _≤_, _-_}
 use native.Mathlib.Omega.{arith}
@@ -12,13 +12,12 @@ use borrow.Author.Tests.{leb-true, le-leb}
 use Rattle.laws.proofs.Conjunctions.{and-true}
 use Rattle.table.specs.Buffers.{zeros, padded}
 use Rattle.table.proofs.Laws.Buffers.{padded-none}
-use Rattle.table.specs.Entries.{Entry}
 use Rattle.table.specs.Rows.{rowsOf, refsOf, namesOf, entryRoom}
 use Rattle.table.proofs.Laws.Rows.{length-rowsOf}
 use Rattle.ranks.specs.Walk as ranks
 use Rattle.ranks.specs.Walk.{Rank, Ring, Bad, resolve}
 use Rattle.rules.specs.Lawful.{maxEntries, tableOf}
-use Rattle.formed.specs.Formed.{formedFrom, wellFormed}
+use Rattle.formed.specs.Formed.{wellFormed}
 use Rattle.records.specs.Table.{Room}
 use Rattle.records.specs.Read.{Result, taken, refused, reading, roomOf}
 use Rattle.records.proofs.Promises as records
@@ -31,9 +30,9 @@ use Rattle.resolve.proofs.Promises.{outcome-demand-3}
 use Rattle.ferry.specs.declared.Answer.{Answer}
 use Rattle.ferry.specs.declared.Answer.the-variants.{Accepted, Refused}
 use Rattle.ferry.specs.Answers.{answerBy}
-use Rattle.ferry.specs.Reader.{Lent, Reads, keepsBy, resolvedIn, resultOf, wholeOf}
+use Rattle.ferry.specs.Reader.{keepsBy, resolvedIn, resultOf, wholeOf}
 use Rattle.ferry.proofs.Laws.Reader.{reading-not-passed, passed-of-answer}
-use Rattle.demands.specs.Demands.{Zeroed, Flattened, Tied, Reader3, Demanded, OneAnswer}
+use Rattle.demands.specs.Demands.{Zeroed, Flattened, Tied, Demanded, OneAnswer}
 
 padded-fits : (n : ℕ) (xs : List ℕ) → length xs ≤ n → length (padded n xs) ≡ n
 unfolding padded

@@ -5,11 +5,10 @@
 --     Reads ..            the answer and the outputs are that outcome
 -- Assumes nothing.
 use mathlib.Core.Path.{_≡_}
-use mathlib.Core.List.{List, []}
+use mathlib.Core.List.{List}
 use Prim.Native.Nat.{ℕ}
 use lib.ListN.{length}
 use Rattle.table.specs.Buffers.{zeros, padded}
-use Rattle.table.specs.Entries.{Entry}
 use Rattle.table.specs.Rows.{rowsOf, refsOf, namesOf}
 use Rattle.ranks.specs.Walk as ranks
 use Rattle.rules.specs.Lawful.{tableOf}

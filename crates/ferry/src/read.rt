@@ -1,7 +1,4 @@
 // The whole reader over the caller's words and four lent buffers.
-ghost use mathlib.Core.Path.{_≡_};
-ghost use mathlib.Core.List.{List};
-ghost use Prim.Native.Nat.{ℕ};
 ghost use lib.ListN.{length};
 ghost use Rattle.ferry.specs.Reader.{Reads, Second, lentBy};
 use crate::Answer;

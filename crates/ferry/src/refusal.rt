@@ -2,7 +2,7 @@
 ghost use mathlib.Core.Path.{_≡_};
 ghost use Rattle.shapes.specs.Answers.{numberOf, detailOf};
 ghost use Rattle.rules.specs.Lawful.{numberOf as numberAt};
-ghost use Rattle.ferry.specs.Answers.{answerOf, firstAnswer, secondAnswer, faultAnswer};
+ghost use Rattle.ferry.specs.Answers.{firstAnswer, secondAnswer, faultAnswer};
 use crate::Answer;
 use rules::Place;
 use shapes::Fault;

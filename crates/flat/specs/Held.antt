@@ -7,7 +7,7 @@
 -- Assumes nothing.
 use mathlib.Core.Path.{_≡_}
 use mathlib.Core.Bool.{Bool}
-use mathlib.Core.List.{List, [], _∷_, _++_}
+use mathlib.Core.List.{List, _∷_, _++_}
 use Prim.Native.Nat.{ℕ, _+_, _*_, _≤_, _<_}
 use lib.ListN.{length}
 use Rattle.table.specs.Buffers.{padded}
@@ -21,7 +21,7 @@ use Rattle.datalayout.specs.declared.apply.Outcome.{Outcome}
 use Rattle.datalayout.specs.declared.apply.Outcome.the-variants.{Done, Refused}
 use Rattle.datalayout.specs.Promises.{Sound}
 use Rattle.flat.specs.declared.lists.Bounds.{Bounds}
-use Rattle.flat.specs.Words.{headWords, numbersWords, typesWords, runOf, layoutWords}
+use Rattle.flat.specs.Words.{numbersWords, typesWords, runOf, layoutWords}
 use Rattle.flat.specs.Puts.{maxWords}
 use Rattle.flat.specs.Moves.{EachWide, sameKey}
 

@@ -1,5 +1,4 @@
 // The layout's words over the front of a lent buffer: part behind part. Where the buffer ends nothing more is written.
-ghost use mathlib.Core.Path.{_≡_};
 ghost use Prim.Native.Nat.{_≤_};
 ghost use Rattle.flat.specs.Words.{numbersWords, typesWords, pointersWords, layoutWords};
 ghost use Rattle.flat.specs.Puts.{Behind, Part, Puts, maxWords};

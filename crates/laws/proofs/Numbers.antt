@@ -4,16 +4,16 @@
 --     listed-of-..          a test of a list: by n being none of it, one of a `match` arm's keys, or in a run of it
 -- Assumes nothing.
 use mathlib.Core.Path.{_≡_, refl}
-use mathlib.Core.Bool.{Bool, true, false, _&&_, _||_}
+use mathlib.Core.Bool.{Bool, true, false, _&&_}
 use mathlib.Core.List.{List, [], _∷_}
 use mathlib.Core.Logic.{inl, inr}
 use Prim.Native.Nat.{ℕ, zero, suc, _+_, _≤_, _<_}
 use native.Mathlib.Omega.{arith}
-use lib.Dec.{T, eqb, leb}
-use borrow.Author.Tests.{le-leb, lt-leb, eq-eqb, ne-eqb, eqb-true, eqb-false}
+use lib.Dec.{T, eqb}
+use borrow.Author.Tests.{le-leb, lt-leb, ne-eqb, eqb-true, eqb-false}
 use types.Run.{OneOf}
 use Rattle.laws.specs.Numbers.{within, listed}
-use Rattle.laws.proofs.Bools.{and-false, or-true, T-true, T-and}
+use Rattle.laws.proofs.Bools.{and-false, T-true, T-and}
 
 pub within-inside : (first last n : ℕ) → first ≤ n → n ≤ last → within first last n ≡ true
 within-inside first last n low high = rw (le-leb first n low, le-leb n last high)

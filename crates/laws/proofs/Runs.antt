@@ -1,7 +1,7 @@
 -- A test that antt computes at each number of a run holds at any number of it.
 --     holdsFrom P first count     P holds at the count numbers from first on
 -- Assumes nothing.
-use mathlib.Core.Path.{_≡_, refl, sym}
+use mathlib.Core.Path.{_≡_, refl}
 use mathlib.Core.Bool.{Bool, true, false, _&&_}
 use Prim.Native.Nat.{ℕ, zero, suc, _+_, _≤_, _<_}
 use native.Mathlib.Omega.{arith}

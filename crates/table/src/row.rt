@@ -2,7 +2,7 @@
 // (01, "Type stream and table").
 ghost use mathlib.Core.Path.{_≡_};
 ghost use lib.ListN.{getD};
-ghost use Rattle.table.specs.Rows.{rowWords, entryRoom, rowAt, wordsOf};
+ghost use Rattle.table.specs.Rows.{entryRoom, rowAt, wordsOf};
 ghost use Rattle.table.specs.Buffers.{over};
 use crate::buffer::put_words;
 

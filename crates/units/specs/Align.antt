@@ -5,7 +5,6 @@
 use mathlib.Core.Bool.{cond}
 use Prim.Native.Nat.{ℕ, zero, suc, _*_, _^_}
 use lib.Dec.{eqb, leb, ltb}
-use Rattle.units.specs.declared.align.Align.{Align}
 use Rattle.units.specs.declared.align.Alignment.{Alignment}
 use Rattle.units.specs.declared.align.Alignment.the-variants.{Of, Bad}
 

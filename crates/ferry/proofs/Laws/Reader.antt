@@ -1,16 +1,14 @@
 -- Laws of specs/Reader.antt: either pass by its answer, and the two put together.
 -- Assumes nothing.
-use mathlib.Core.Path.{_≡_, refl, sym, ap, _∙_}
+use mathlib.Core.Path.{_≡_, sym, ap, _∙_}
 use mathlib.Core.Bool.{Bool, true, false, cond}
-use mathlib.Core.List.{List, []}
+use mathlib.Core.List.{List}
 use Prim.Native.Nat.{ℕ}
 use native.Mathlib.Omega.{arith}
 use lib.Dec.{eqb}
 use lib.ListN.{length}
 use Rattle.table.specs.Buffers.{zeros, padded}
 use Rattle.table.specs.Rows.{rowsOf, refsOf, namesOf}
-use Rattle.ranks.specs.Walk as ranks
-use Rattle.rules.specs.Lawful.{tableOf}
 use Rattle.stream.specs.declared.Frame.{Frame}
 use Rattle.stream.specs.declared.Frame.the-variants.{Whole, CutAt}
 use Rattle.stream.specs.declared.Stated.{Stated}
@@ -23,11 +21,11 @@ use Rattle.records.specs.Table.{Room, empty}
 use Rattle.records.specs.Records.{Ran, whole, bad, run}
 use Rattle.records.specs.Read.{Result, taken, refused, byFrame, byCount, reading, roomOf, Output, output, shown}
 use Rattle.walk.specs.declared.Resolution.{Resolution}
-use Rattle.walk.specs.Resolve.{Resolves, entriesOf, witnessIn}
+use Rattle.walk.specs.Resolve.{Resolves, entriesOf}
 use Rattle.ferry.specs.declared.Answer.{Answer}
 use Rattle.ferry.specs.declared.Answer.the-variants.{Accepted, Refused}
 use Rattle.ferry.specs.Answers.{firstAnswer, onPaper, secondAnswer, answerBy}
-use Rattle.ferry.specs.Reader.{Lent, lentBy, Outcome, outcome, keepsBy, resolvedIn, secondOf, resultOf, wholeOf, Reads, Second}
+use Rattle.ferry.specs.Reader.{Lent, Outcome, outcome, resolvedIn, secondOf, resultOf, wholeOf, Reads, Second}
 
 -- the second pass answered a, and its refusals clear the outputs
 module _ (rows refs names w : List ℕ) (room entries : ℕ) (r : Resolution)

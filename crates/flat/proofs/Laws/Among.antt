@@ -1,19 +1,18 @@
 -- Laws of rows among other words (specs/Held.antt): where they lie, and the three ways through `put_row`.
 -- Assumes nothing.
-use mathlib.Core.Path.{_≡_, refl, sym, ap, subst, _∙_}
-use mathlib.Core.Bool.{Bool, true, false, cond}
+use mathlib.Core.Path.{_≡_, refl, sym, ap, _∙_}
+use mathlib.Core.Bool.{Bool, cond}
 use mathlib.Core.List.{List, [], _∷_, _++_, append-assoc}
 use mathlib.Core.Logic.{⊎-elim}
 use Prim.Native.Nat.{ℕ, zero, suc, _+_, _-_, _*_, _≤_, _<_}
 use native.Mathlib.Nat.{eq-or-lt-of-le, mul-le-mul-right, lt-of-mul-lt-mul-right}
 use native.Mathlib.Omega.{arith}
-use lib.ListN.{length, getD, take, drop, set, length-append, length-set, length-drop}
+use lib.ListN.{length, getD, take, drop, set, length-append, length-set}
 use lib.Seq.{length-take-le, split-at, set-split, take-at, drop-at}
 use Rattle.table.specs.Buffers.{zeros, padded}
 use Rattle.layout.specs.Rows.{placed, placeOf}
 use Rattle.layout.proofs.Laws.Rows.{placeOf-le, placed-appended, placed-replaced}
 use Rattle.fields.specs.declared.numbers.Fault.the-variants.{ListFull}
-use Rattle.datalayout.specs.declared.apply.Outcome.{Outcome}
 use Rattle.datalayout.specs.declared.apply.Outcome.the-variants.{Done, Refused}
 use Rattle.flat.specs.Words.{runOf}
 use Rattle.flat.specs.Moves.{Replaces, Whole, EachWide, sameKey}

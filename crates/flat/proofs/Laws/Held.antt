@@ -1,15 +1,13 @@
 -- Laws of specs/Held.antt: the words of a layout cut at each of its parts, and what a change of a part makes of the buffer.
 -- Assumes nothing.
-use mathlib.Core.Path.{_≡_, refl, sym, ap, subst, _∙_}
-use mathlib.Core.List.{List, [], _∷_, _++_, append-assoc, append-nil}
-use Prim.Native.Nat.{ℕ, _+_, _-_, _*_, _≤_, _<_, min}
+use mathlib.Core.Path.{_≡_, refl}
+use mathlib.Core.List.{List, [], _++_, append-assoc, append-nil}
+use Prim.Native.Nat.{ℕ, _+_, _-_, _*_, _≤_, min}
 use native.Mathlib.Omega.{arith}
-use lib.ListN.{length, getD, take, set, length-append, length-take, length-set}
-use Rattle.table.specs.Buffers.{padded}
+use lib.ListN.{length, getD, take, length-append, length-take}
 use Rattle.layout.specs.declared.record.DataLayout.{DataLayout}
 use Rattle.datalayout.specs.Promises.{Sound}
 use Rattle.flat.specs.Words.{headWords, numbersWords, typeWords, typesWords, pointerWords, pointersWords, runOf, layoutWords}
-use Rattle.flat.specs.Puts.{maxWords}
 use Rattle.flat.specs.Held.{Held, startsOf}
 use Rattle.flat.proofs.Laws.Padded.{padded-getD}
 use Rattle.flat.proofs.Laws.Puts.{length-runOf}

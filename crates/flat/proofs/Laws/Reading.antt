@@ -3,7 +3,7 @@
 --     Turn s n out at end outcome mid   the spec from `at` to `end` is applied
 -- The laws of these are one for each way through a turn of `read_layout`.
 -- Assumes nothing.
-use mathlib.Core.Path.{_≡_, refl, sym, ap, subst, _∙_}
+use mathlib.Core.Path.{_≡_, refl, sym, ap, _∙_}
 use mathlib.Core.List.{List}
 use Prim.Native.Nat.{ℕ, _+_, _-_, _≤_, _<_, min}
 use native.Mathlib.Omega.{arith}
@@ -12,7 +12,6 @@ use Rattle.layout.specs.declared.record.DataLayout.{DataLayout}
 use Rattle.layout.specs.Defaults.{defaultLayout}
 use Rattle.fields.specs.declared.numbers.Fault.{Fault}
 use Rattle.fields.specs.Parts.{dash, endOf}
-use Rattle.spec.specs.declared.spec.Read.{Read}
 use Rattle.spec.specs.Specs.{specIn}
 use Rattle.datalayout.specs.declared.answer.Answer.the-variants.{Taken, BadEncoding, Refused as Refuses}
 use Rattle.datalayout.specs.declared.apply.Outcome.{Outcome}

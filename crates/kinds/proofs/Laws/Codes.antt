@@ -1,7 +1,7 @@
 -- Laws of specs/Codes.antt.
 -- Assumes nothing.
 use mathlib.Core.Path.{_≡_, refl}
-use mathlib.Core.List.{List, [], _∷_, map}
+use mathlib.Core.List.{List, [], _∷_}
 use Prim.Native.Nat.{ℕ}
 use borrow.Author.Tests.{ne-eqb}
 use Rattle.laws.proofs.Numbers.{Apart, Rest, apart-of-rest}

@@ -2,7 +2,7 @@
 --     ReadsTable-of-read, ReadsLayout-of-laid       an exported contract from those of the calls
 --     ReadsTable-unique, ReadsLayout-unique         no second answer fits
 -- Assumes nothing.
-use mathlib.Core.Path.{_≡_, refl, sym, ap, subst, _∙_}
+use mathlib.Core.Path.{_≡_, refl, sym, ap, _∙_}
 use mathlib.Core.List.{List, [], _∷_}
 use Prim.Native.Nat.{ℕ}
 use lib.ListN.{length}
@@ -15,7 +15,6 @@ use Rattle.datalayout.specs.Strings.{mapped}
 use Rattle.flat.specs.declared.read.Laid.{Laid}
 use Rattle.flat.specs.Words.{layoutWords}
 use Rattle.flat.specs.Reads as flat
-use Rattle.flat.specs.Puts.{Puts}
 use Rattle.flat.proofs.Laws.Puts.{Puts-unique}
 use Rattle.reckonferry.specs.Library.{answerWords, ReadsTable, refusalWords, ReadsLayout}
 

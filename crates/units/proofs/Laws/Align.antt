@@ -6,16 +6,16 @@
 -- Assumes nothing.
 use mathlib.Core.Path.{_≡_, refl, sym, ap, _∙_}
 use mathlib.Core.Bool.{Bool, true, false, cond}
-use mathlib.Core.Logic.{_⊎_, inl, inr, ⊎-elim}
-use Prim.Native.Nat.{ℕ, zero, suc, _+_, _*_, _/_, _%_, _^_, _≤_, _<_}
-use native.Mathlib.Nat.{mul-lt-mul-of-pos-left, mul-le-mul-left, eq-of-mul-eq-mul-left, eq-or-lt-of-le, mod-eq-of-lt}
+use mathlib.Core.Logic.{_⊎_, ⊎-elim}
+use Prim.Native.Nat.{ℕ, zero, suc, _+_, _*_, _%_, _^_, _≤_, _<_}
+use native.Mathlib.Nat.{mul-lt-mul-of-pos-left, eq-of-mul-eq-mul-left, eq-or-lt-of-le, mod-eq-of-lt}
 use native.Mathlib.Omega.{arith}
-use lib.Dec.{eqb, leb, ltb}
+use lib.Dec.{eqb}
 use lib.Pow.{pow-lt, pow-mono, pow-add}
 use borrow.Author.Tests.{eq-eqb, ne-eqb, eqb-true, eqb-false, lt-ltb, le-ltb}
 use Rattle.units.specs.declared.align.Alignment.{Alignment}
 use Rattle.units.specs.declared.align.Alignment.the-variants.{Of, Bad}
-use Rattle.units.specs.Align.{at, shiftBelow, sizeOf, bitsInByte}
+use Rattle.units.specs.Align.{at, shiftBelow, sizeOf}
 
 -- two shifts of one unit are never the same size
 size-differs : (unit i j : ℕ) → 0 < unit → i < j → unit * 2 ^ i ≡ unit * 2 ^ j → ⊥

@@ -12,7 +12,6 @@ use denote.Enum.Declared.{tagOf}
 use Rattle.table.specs.declared.Rank.{Rank}
 use Rattle.table.specs.Buffers.{zeros, over}
 use Rattle.table.proofs.Laws.Buffers.{Laid, Laid-more, Laid-done}
-use Rattle.ranks.specs.Walk as ranks
 use Rattle.ranks.specs.Walk.{andThen, entry, upward, resolve}
 use Rattle.ranks.proofs.Marks.{unstarted-le-length}
 use Rattle.rules.specs.Lawful.{maxEntries, tableOf}

@@ -1,11 +1,11 @@
 -- `flat::lists::put_row` meets its contract: in the place of a row, behind all rows, or no more room for one. Each is a law of
 -- Laws/Among.antt.
 -- Assumes nothing.
-use mathlib.Core.Path.{_≡_, refl, sym, ap, _∙_}
+use mathlib.Core.Path.{_≡_, refl, ap, _∙_}
 use mathlib.Core.List.{List, [], _∷_}
 use Prim.Native.Nat.{ℕ, _+_, _-_, _*_, _≤_, _<_}
 use native.Mathlib.Omega.{arith}
-use lib.ListN.{length, getD, take, drop, length-set}
+use lib.ListN.{length, getD, length-set}
 use borrow.Author.Needs.{needs}
 use Rattle.layout.specs.Rows.{placeOf}
 use Rattle.flat.specs.Moves.{sameKey}

@@ -1,10 +1,10 @@
 -- `flat::read::read_whole` meets its contract. The invariant is `Reading`: what is left of the specs gives what all of them give, from
 -- a layout that the buffer holds. Each answer is a law of the sweep over the string (datalayout/proofs/Laws/Sweep.antt).
 -- Assumes nothing.
-use mathlib.Core.Path.{_≡_, refl, sym, ap, subst, _∙_}
+use mathlib.Core.Path.{_≡_, refl, sym, _∙_}
 use mathlib.Core.List.{List}
 use mathlib.Core.Logic.{⊎-elim}
-use Prim.Native.Nat.{ℕ, _-_, _≤_}
+use Prim.Native.Nat.{ℕ, _-_}
 use native.Mathlib.Omega.{arith}
 use lib.ListN.{length, List·getD-eq-default}
 use borrow.Author.Tests.{leb-true, leb-false}

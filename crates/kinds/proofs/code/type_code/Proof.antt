@@ -1,6 +1,5 @@
 -- `kinds::code::type_code` meets its contract: at a code of the list the definition computes, and the arm `_` is none of them.
 -- Assumes nothing.
-use mathlib.Core.Path.{_≡_, sym, ap, _∙_}
 use Rattle.kinds.specs.Codes.{typeCode}
 use Rattle.kinds.proofs.Laws.Codes.{typeCode-of-rest}
 use Rattle.kinds.proofs.code.type_code.Statement.{statement}

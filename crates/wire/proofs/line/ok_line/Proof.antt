@@ -1,6 +1,6 @@
 -- `wire::line::ok_line` meets its contract: the head, the number and the newline, one behind the other.
 -- Assumes nothing.
-use mathlib.Core.List.{[], _∷_, _++_}
+use mathlib.Core.List.{_++_}
 use borrow.Author.Needs.{needs}
 use Rattle.wire.specs.Lines.{okHead, decimalText}
 use Rattle.wire.proofs.Laws.Lines.{Adds-number}

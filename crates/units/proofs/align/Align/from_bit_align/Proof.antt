@@ -4,7 +4,7 @@ use mathlib.Core.Path.{_≡_, sym, _∙_}
 use Prim.Native.Nat.{_*_, _/_}
 use native.Mathlib.Omega.{arith}
 use borrow.Author.Needs.{needs}
-use Rattle.units.specs.Align.{maxShift, bitsInByte}
+use Rattle.units.specs.Align.{bitsInByte}
 use Rattle.units.proofs.Laws.Align.{alignment-none, alignment-scaled}
 use Rattle.units.proofs.align.Align.from_bit_align.Statement.{statement}
 use Rattle.units.proofs.align.Align.from_bit_align.Tie as tie
