@@ -1,4 +1,4 @@
--- Stretches of words in a lent buffer behind which all is 0.
+-- Stretches of words in a lent buffer behind which all is 0. No public contract cites this.
 --     moved from n to l                           the n words from `from` on, copied to where `to` is
 --     Shifts from end to before after             the words from `from` to `end` start at `to`, and zeros stand behind them
 --     Replaces src at behind end before after     the words from `at` to `behind` gave way to src; those up to `end` stand behind it

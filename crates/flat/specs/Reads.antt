@@ -1,4 +1,5 @@
--- The words that reading a layout string leaves in a lent buffer.
+-- docs/DECISIONS.md, "The library to link": what reading a layout string leaves in a lent buffer, "number, place, detail .., then the
+-- layout". "Over the front .., as far as it reaches, the words of the layout, .. and 0 behind them" (include/reckonferry.h).
 --     Reads mapped before r after     r has the answer and counts the words of the layout, which lie over zeros
 -- Assumes nothing.
 use mathlib.Core.Path.{_≡_}
