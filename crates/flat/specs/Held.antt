@@ -2,6 +2,7 @@
 --     Held l out          out has room for every layout, and holds the words of l, then zeros
 --     Kept out            it holds those of some sound layout
 --     Did applied r out   the outcome of a spec, and that its layout is held where it was done
+--     memoryAt memory     which word of the head says the space of that memory
 --     startsOf l          where the parts of the words start
 --     RowsIn, RowPut      rows of any kind within a buffer, and a new one put among them
 -- Assumes nothing.

@@ -4,12 +4,13 @@
 use mathlib.Core.Path.{_≡_, refl, sym, _∙_}
 use mathlib.Core.List.{List}
 use mathlib.Core.Logic.{⊎-elim}
-use Prim.Native.Nat.{ℕ, _-_}
+use Prim.Native.Nat.{ℕ, _-_, _≤_}
 use native.Mathlib.Omega.{arith}
 use lib.ListN.{length, List·getD-eq-default}
 use borrow.Author.Tests.{leb-true, leb-false}
 use borrow.Author.Needs.{needs}
 use Rattle.datalayout.specs.declared.apply.Outcome.the-variants.{Done, Refused}
+use Rattle.flat.specs.Puts.{maxWords}
 use Rattle.flat.proofs.Laws.Reading.{Reading, Reading-first, Turn}
 use Rattle.flat.proofs.Laws.Reading.{Reading-kept, Reading-within, Reading-encoded}
 use Rattle.flat.proofs.Laws.Reading.{Turn-within, Turn-encoded, Turn-refused, Turn-done, Turn-more}
@@ -88,6 +89,13 @@ turn c =
       kept = c .apply .kept .0;
     }
 
+-- the buffer behind it has room for every layout, and the length of the one that was lent
+applied-room : (c : Applied) → maxWords ≤ length (c .apply .last .0)
+applied-room c = omega (arith, c .apply .kept .0, search-in c .before .loop .inv .held .room)
+
+applied-long : (c : Applied) → length (c .apply .last .0) ≡ length (start-of (search-in c) .args .out .now)
+applied-long c = c .apply .kept .0 ∙ search-in c .before .loop .inv .long ∙ opened-long (search-in c)
+
 loop-holds : tie.Need-loop-holds Inv-loop μ-loop
 loop-holds c =
     let begun = c .before .before in
@@ -115,14 +123,10 @@ apply-requires : tie.Need-apply-requires Inv-loop μ-loop
 apply-requires c κs = Reading-kept (c .before .before .before .before .before .loop .inv)
 
 refuse-requires-2 : tie.Need-refuse-requires-2 Inv-loop μ-loop
-refuse-requires-2 c κs =
-    let at-turn = c .before .before .before .before .before .before .before .before in
-    omega (arith, at-turn .apply .kept .0, search-in at-turn .before .loop .inv .held .room)
+refuse-requires-2 c κs = applied-room (c .before .before .before .before .before .before .before .before)
 
 same-length-2 : tie.Need-same-length-2 Inv-loop μ-loop
-same-length-2 c =
-    let at-turn = c .before .before .before .before .before .before .before .before .before .before .before in
-    c .before .before .refuse2 .kept .0 ∙ at-turn .apply .kept .0 ∙ search-in at-turn .before .loop .inv .long ∙ opened-long (search-in at-turn)
+same-length-2 c = c .before .before .refuse2 .kept .0 ∙ applied-long (c .before .before .before .before .before .before .before .before .before .before .before)
 
 returns-2 : tie.Need-returns-2 Inv-loop μ-loop
 returns-2 c =
@@ -131,14 +135,10 @@ returns-2 c =
     Turn-encoded (turn at-turn) (call .result) _ _ _ (sym (opened-long (search-in at-turn))) (call .ensures) (omega arith) (c .before .before .refuse2 .ensures)
 
 refuse-requires-3 : tie.Need-refuse-requires-3 Inv-loop μ-loop
-refuse-requires-3 c κs =
-    let at-turn = c .before .before .before .before .before .before .before .before in
-    omega (arith, at-turn .apply .kept .0, search-in at-turn .before .loop .inv .held .room)
+refuse-requires-3 c κs = applied-room (c .before .before .before .before .before .before .before .before)
 
 same-length-3 : tie.Need-same-length-3 Inv-loop μ-loop
-same-length-3 c =
-    let at-turn = c .before .before .before .before .before .before .before .before .before .before .before in
-    c .before .before .refuse3 .kept .0 ∙ at-turn .apply .kept .0 ∙ search-in at-turn .before .loop .inv .long ∙ opened-long (search-in at-turn)
+same-length-3 c = c .before .before .refuse3 .kept .0 ∙ applied-long (c .before .before .before .before .before .before .before .before .before .before .before)
 
 returns-3 : tie.Need-returns-3 Inv-loop μ-loop
 returns-3 c =
@@ -150,9 +150,7 @@ returns-3 c =
     (sym (opened-long (search-in at-turn))) refused (call .ensures) (omega arith) (c .before .before .refuse3 .ensures)
 
 same-length-4 : tie.Need-same-length-4 Inv-loop μ-loop
-same-length-4 c =
-    let at-turn = c .before .before .before .before .before .before .before in
-    at-turn .apply .kept .0 ∙ search-in at-turn .before .loop .inv .long ∙ opened-long (search-in at-turn)
+same-length-4 c = applied-long (c .before .before .before .before .before .before .before)
 
 returns-4 : tie.Need-returns-4 Inv-loop μ-loop
 returns-4 c =
