@@ -1,4 +1,6 @@
 // The four lent buffers. Here alone it is known how long a row is and which of its words says what (2026-07).
+#![tactic(auto)]
+
 pub mod buffer;
 pub mod row;
 

@@ -1,4 +1,6 @@
 // Numbers that the format limits: decimal integers, alignments, widths and address spaces (align.rs).
+#![tactic(auto)]
+
 pub mod align;
 pub mod decimal;
 pub mod limits;

@@ -1,4 +1,6 @@
 // Well-formed UTF-8, a byte to a word (the Unicode Standard, table 3-7). A word above 255 is in no row of that table.
+#![tactic(auto)]
+
 ghost use Rattle.std.specs.Prelude.{◌≡◌, true, List, ◌∷◌, ℕ};
 ghost use Rattle.utf8.specs.Utf8.{sequences, rest_of, pays, owing, is_utf8};
 

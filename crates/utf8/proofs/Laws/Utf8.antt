@@ -153,4 +153,4 @@ bytes-of-pays (r ∷ rs) (b ∷ s) small t (suc k) =
 -- an ASCII byte owes nothing
 pub pays-ascii : (b : ℕ) (s : List ℕ) → b < 128 → pays [] (b ∷ s) ≡ pays [] s
 unfolding pays
-pays-ascii b s low = rw (within-inside 0 127 b (omega arith) (omega arith))
+pays-ascii b s low = rw (pays, rest_of, within-inside 0 127 b (omega arith) (omega arith))

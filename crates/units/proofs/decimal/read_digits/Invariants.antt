@@ -1,0 +1,23 @@
+-- `units::decimal::read_digits` meets its contract. The invariant: behind the value that stands, what is left of the part gives
+-- what the whole gives. Assumes nothing.
+use mathlib.Core.Path.{◌≡◌, sym, ◌∙◌}
+use Prim.Native.Nat.{ℕ, ◌+◌, ◌*◌, ◌-◌, ◌≤◌, ◌<◌}
+use native.Mathlib.Omega.{arith}
+use mathlib.Core.List.{List}
+use lib.ListN.{length, get_or, drop}
+use borrow.Author.Rules.{rules}
+use Rattle.units.specs.declared.decimal.Decimal.TheVariants.{Number, Bad}
+use Rattle.units.specs.Decimal.{digits, number_from}
+use Rattle.units.proofs.Laws.Decimal.{number_from-low, number_from-high, number_from-digit, number_from-over, number_from-done, digits-some, digits-none}
+use Rattle.units.proofs.decimal.read_digits.Given as goal
+
+pub record Read (s : List ℕ) (most value i : ℕ) : Type 0 where
+  pub in_part : i ≤ length s
+  pub fits : value ≤ most
+  pub same : digits most s ≡ number_from most value (drop i s)
+
+abbrev pub invariant-loop-i : goal.invariant-loop-i
+invariant-loop-i l = Read l.s l.most l.value l.i
+
+abbrev pub decreases-loop-i : goal.decreases-loop-i
+decreases-loop-i l = length l.s - l.i
