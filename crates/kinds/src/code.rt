@@ -55,7 +55,7 @@ pub const X86_AMX: u64 = 24;
 pub const OPAQUE_POINTER: u64 = 25;
 
 // The Rust's `TypeCode`, where the codes whose record says nothing but its kind are one case that holds the kind.
-#[derive(Drop)]
+#[derive(Clone, Copy)]
 pub enum TypeCode {
     NumEntry,
     Plain(u64),

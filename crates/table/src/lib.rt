@@ -5,8 +5,8 @@ pub mod buffer;
 pub mod row;
 
 // A reference: the number of an entry. A rank is another number and another type.
-#[derive(Drop)]
+#[derive(Clone, Copy)]
 pub struct TypeRef(pub u64);
 
-#[derive(Drop)]
+#[derive(Clone, Copy)]
 pub struct Rank(pub u64);

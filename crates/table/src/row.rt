@@ -11,7 +11,7 @@ pub const ROW_WORDS: usize = 8;
 // "the least of 4,096, .." and "the count is at most 4,096" (01): no table has more entries.
 pub const MAX_ENTRIES: u64 = 4_096;
 
-#[derive(Drop)]
+#[derive(Clone, Copy)]
 pub struct Row {
     pub kind: u64,
     pub number: u64,

@@ -3,11 +3,11 @@ ghost use Rattle.std.specs.Prelude.{◌≡◌};
 ghost use Rattle.units.specs.Align.{alignment, from_shift, size_of, bits_in_byte};
 
 // An alignment as the power of two of its bytes. No function trusts it: a shift that no word holds has size 0.
-#[derive(Drop)]
+#[derive(Clone, Copy)]
 pub struct Align(pub u8);
 
 // What a number says as an alignment.
-#[derive(Drop)]
+#[derive(Clone, Copy)]
 pub enum Alignment {
     Of(Align),
     Bad,

@@ -3,7 +3,7 @@ ghost use Rattle.std.specs.Prelude.{◌≡◌};
 ghost use Rattle.units.specs.Decimal.{decimal, digits, u32_most, u64_most};
 
 // 2026-05 gives `Bad` the offset of the byte that spoils the number: the place in `read_digits` that answers it.
-#[derive(Drop)]
+#[derive(Clone, Copy)]
 pub enum Decimal {
     Number(u64),
     Bad,

@@ -10,7 +10,7 @@ const LOW: u64 = 0x80;
 const HIGH: u64 = 0xbf;
 
 // What a sequence still owes: how many bytes, and the range of the next of them.
-#[derive(Drop)]
+#[derive(Clone, Copy)]
 pub struct Owed {
     pub left: u64,
     pub low: u64,

@@ -1,17 +1,16 @@
 -- `utf8::is_ascii` meets its contract. The invariant: if all words so far, joined bit by bit, are ASCII, the text is well formed
 -- exactly if its rest is; `|` is no less than either side.
 -- Assumes nothing.
-use mathlib.Core.Path.{◌≡◌, refl, ◌∙◌}
-use mathlib.Core.List.{[]}
-use Prim.Native.Nat.{◌≤◌, ◌<◌, ◌-◌, suc}
+use mathlib.Core.Path.{refl, ◌∙◌}
+use Prim.Native.Nat.{◌<◌, suc}
 use native.Mathlib.Numerals.{add-one}
 use native.Mathlib.Omega.{arith}
-use lib.ListN.{length, get_or, drop, drop_of_length-le}
+use lib.ListN.{get_or, drop, drop_of_length-le}
 use lib.Seq.{drop-cons}
 use borrow.Author.Rules.{rules}
 use borrow.Author.Tests.{ltb-true}
 use Rattle.laws.proofs.Bits.{le-or-left, le-or-right}
-use Rattle.utf8.specs.Utf8.{is_utf8, pays}
+use Rattle.utf8.specs.Utf8.{pays}
 use Rattle.utf8.proofs.Laws.Utf8.{pays-ascii}
 use Rattle.utf8.proofs.is_ascii.Goals as goal
 

@@ -1,6 +1,5 @@
 -- `utf8::next` meets its contract, by a law for each way out. Assumes nothing.
 use native.Mathlib.Omega.{arith}
-use borrow.Author.Rules.{rules}
 use Rattle.laws.proofs.Numbers.{within-below, within-above}
 use Rattle.utf8.proofs.Laws.Utf8.{pays-lead, pays-missed, pays-next}
 use Rattle.utf8.proofs.next.Goals as goal

@@ -1,7 +1,6 @@
 -- `utf8::rest_of` meets its contract: for each arm but the last antt computes the table at every byte of the arm.
 -- Assumes nothing.
 use native.Mathlib.Omega.{arith}
-use borrow.Author.Rules.{rules}
 use Rattle.utf8.proofs.Laws.Utf8.{rest_of-of-run, rest_of-high}
 use Rattle.utf8.proofs.rest_of.Goals as goal
 

@@ -1,12 +1,9 @@
 -- `table::buffer::clear_words` meets its contract. The invariant: zeros lie over the first i of the rest.
 -- Assumes nothing.
-use mathlib.Core.Path.{sym, ◌∙◌}
 use Prim.Native.Nat.{◌-◌}
-use native.Mathlib.Omega.{arith}
-use lib.ListN.{length, get_or-replicate}
-use borrow.Author.Rules.{rules}
+use lib.ListN.{length}
 use Rattle.table.specs.Buffers.{zeros}
-use Rattle.table.proofs.Laws.Buffers.{length-zeros, Laid, Laid-first, Laid-more, Laid-clipped, over_zeros}
+use Rattle.table.proofs.Laws.Buffers.{Laid}
 use Rattle.table.proofs.buffer.clear_words.Given as goal
 
 abbrev pub invariant-loop-i : goal.invariant-loop-i

@@ -1,11 +1,9 @@
 -- `table::buffer::put_bytes` meets its contract. The invariant: the first i of the words' low bytes lie over the front of the rest.
 -- Assumes nothing.
 use mathlib.Core.Path.{sym}
-use Prim.Native.Nat.{◌-◌}
 use native.Mathlib.Omega.{arith}
-use borrow.Author.Rules.{rules}
 use Rattle.table.specs.Buffers.{low_bytes}
-use Rattle.table.proofs.Laws.Buffers.{Laid, Laid-first, Laid-more, Laid-ended, length-low_bytes, getD-low_bytes}
+use Rattle.table.proofs.Laws.Buffers.{Laid-first, Laid-more, Laid-ended, length-low_bytes, getD-low_bytes}
 use Rattle.table.proofs.buffer.put_bytes.Goals as goal
 
 pub loop-i-init : goal.loop-i-init

@@ -1,10 +1,7 @@
 -- `table::buffer::put_words` meets its contract. The invariant: the first i of the run lie over the front of the rest.
 -- Assumes nothing.
-use mathlib.Core.Path.{refl}
 use Prim.Native.Nat.{◌-◌}
-use native.Mathlib.Omega.{arith}
-use borrow.Author.Rules.{rules}
-use Rattle.table.proofs.Laws.Buffers.{Laid, Laid-first, Laid-more, Laid-ended}
+use Rattle.table.proofs.Laws.Buffers.{Laid}
 use Rattle.table.proofs.buffer.put_words.Given as goal
 
 abbrev pub invariant-loop-i : goal.invariant-loop-i

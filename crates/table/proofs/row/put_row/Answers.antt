@@ -2,7 +2,6 @@
 -- Assumes nothing.
 use native.Mathlib.Omega.{arith}
 use lib.ListN.{length-set}
-use borrow.Author.Rules.{rules}
 use Rattle.table.specs.Rows.{words_of}
 use Rattle.table.proofs.Laws.Buffers.{stored-agrees-over}
 use Rattle.table.proofs.row.put_row.Goals as goal

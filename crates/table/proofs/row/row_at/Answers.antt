@@ -1,7 +1,6 @@
 -- `table::row::row_at` meets its contract. Each word is read by itself; behind the last whole row every word reads as 0.
 -- Assumes nothing.
 use native.Mathlib.Omega.{arith}
-use borrow.Author.Rules.{rules}
 use Rattle.table.proofs.Laws.Rows.{row_at-is, row_at-past}
 use Rattle.table.proofs.row.row_at.Goals as goal
 

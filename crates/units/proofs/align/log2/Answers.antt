@@ -1,12 +1,11 @@
 -- `units::align::log2` meets its contract. The invariant: `bit` is 2 to the shift, and no smaller shift is the one.
 -- Assumes nothing.
 use mathlib.Core.Path.{◌≡◌, refl, sym}
-use Prim.Native.Nat.{ℕ, ◌+◌, ◌*◌, ◌^◌, ◌-◌, ◌≤◌, ◌<◌}
+use Prim.Native.Nat.{ℕ, ◌+◌, ◌*◌, ◌^◌, ◌≤◌, ◌<◌}
 use native.Mathlib.Nat.{pow-suc}
 use native.Mathlib.Numerals.{add-one}
 use native.Mathlib.Omega.{arith}
 use lib.Pow.{pow_mono}
-use Rattle.units.specs.declared.align.Alignment.TheVariants.{Bad}
 use Rattle.units.specs.Align.{max_shift, shift_below}
 use Rattle.units.proofs.Laws.Align.{alignment-of-eq, alignment-more}
 use Rattle.units.proofs.align.log2.Invariants.{Looked}

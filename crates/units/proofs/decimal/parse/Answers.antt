@@ -1,7 +1,6 @@
 -- `units::decimal::parse` meets its contract: the optional plus is passed over, and the digits are the rest of the part.
 -- Assumes nothing.
 use mathlib.Core.Path.{◌∙◌}
-use borrow.Author.Rules.{rules}
 use Rattle.units.proofs.Laws.Decimal.{decimal-none, decimal-plus, decimal-bare}
 use Rattle.units.proofs.decimal.parse.Goals as goal
 

@@ -4,10 +4,9 @@ use mathlib.Core.Path.{◌≡◌, sym, ◌∙◌}
 use Prim.Native.Nat.{ℕ, ◌+◌, ◌*◌, ◌-◌, ◌≤◌, ◌<◌}
 use native.Mathlib.Omega.{arith}
 use mathlib.Core.List.{List}
-use lib.ListN.{length, get_or, drop}
-use borrow.Author.Rules.{rules}
+use lib.ListN.{length, get_or}
 use Rattle.units.specs.declared.decimal.Decimal.TheVariants.{Number, Bad}
-use Rattle.units.specs.Decimal.{digits, number_from}
+use Rattle.units.specs.Decimal.{digits}
 use Rattle.units.proofs.Laws.Decimal.{number_from-low, number_from-high, number_from-digit, number_from-over, number_from-done, digits-some, digits-none}
 use Rattle.units.proofs.decimal.read_digits.Invariants.{Read}
 use Rattle.units.proofs.decimal.read_digits.Goals as goal

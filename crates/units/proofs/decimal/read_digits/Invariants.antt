@@ -1,14 +1,10 @@
 -- `units::decimal::read_digits` meets its contract. The invariant: behind the value that stands, what is left of the part gives
 -- what the whole gives. Assumes nothing.
-use mathlib.Core.Path.{◌≡◌, sym, ◌∙◌}
-use Prim.Native.Nat.{ℕ, ◌+◌, ◌*◌, ◌-◌, ◌≤◌, ◌<◌}
-use native.Mathlib.Omega.{arith}
+use mathlib.Core.Path.{◌≡◌}
+use Prim.Native.Nat.{ℕ, ◌-◌, ◌≤◌}
 use mathlib.Core.List.{List}
-use lib.ListN.{length, get_or, drop}
-use borrow.Author.Rules.{rules}
-use Rattle.units.specs.declared.decimal.Decimal.TheVariants.{Number, Bad}
+use lib.ListN.{length, drop}
 use Rattle.units.specs.Decimal.{digits, number_from}
-use Rattle.units.proofs.Laws.Decimal.{number_from-low, number_from-high, number_from-digit, number_from-over, number_from-done, digits-some, digits-none}
 use Rattle.units.proofs.decimal.read_digits.Given as goal
 
 pub record Read (s : List ℕ) (most value i : ℕ) : Type 0 where

@@ -2,7 +2,6 @@
 -- Assumes nothing.
 use mathlib.Core.Path.{refl}
 use native.Mathlib.Omega.{arith}
-use borrow.Author.Rules.{rules}
 use Rattle.units.proofs.Laws.Align.{size_of-held, size_of-past}
 use Rattle.units.proofs.align.Align.byte_align.Goals as goal
 

@@ -3,7 +3,6 @@
 use mathlib.Core.Path.{◌≡◌, sym, ◌∙◌}
 use Prim.Native.Nat.{◌*◌, ◌/◌}
 use native.Mathlib.Omega.{arith}
-use borrow.Author.Rules.{rules}
 use Rattle.units.specs.Align.{bits_in_byte}
 use Rattle.units.proofs.Laws.Align.{alignment-none, alignment-scaled}
 use Rattle.units.proofs.align.Align.from_bit_align.Goals as goal
