@@ -1,8 +1,8 @@
-"""A model of document 01 for cross-checking: it answers the cases of a transcript (ops 1 to 4) as the document says.
+"""A model of docs/RULES.md for cross-checking: it answers the cases of a transcript (ops 1 to 4, docs/TRANSCRIPT.md) as the rules say.
 
 `rust` is a set of names out of SWITCHES. Each makes the model do one thing as the original does it, and stands for an entry of
-docs/DIFFERENCES.md; with all of them the model says what the original answers. `requests` is a set of names out of REQUESTS, requests of
-document 02 that have not landed: tools/real-tables asks which of them takes a table. `edition` 2 is that of request 2026-14.
+docs/DIFFERENCES.md; with all of them the model says what the original answers. `requests` is a set of names out of REQUESTS, requests
+that have not landed: tools/real-tables asks which of them takes a table. `edition` 2 is that of request 2026-14.
 """
 import re
 import sys

@@ -1,19 +1,23 @@
 // The program (01, "Program"): standard input to one line on standard output. What it does is in `ferry::program`.
-use libc::{STDIN_FILENO, STDOUT_FILENO};
+#![tactic(auto)]
+
+use inout::read_full;
+use std::io::{self, Input, Write};
 
 // One word more than a stream may have, so that a longer input shows.
 const SPACE: usize = 65_544;
 
-fn write_line(line: &[u8], len: usize) {
+fn write_line<W: Write>(writer: &mut W, line: &[u8], len: usize) -> io::Result<()> {
     if len <= line.len() {
-        io::write_all(STDOUT_FILENO, &line[..len]);
+        writer.write_all(&line[..len])?;
     }
+    Ok(())
 }
 
-fn main() {
+fn main(rt: HostRuntime) -> io::Result<()> {
     let mut input = [0u8; SPACE];
-    let got = io::read_full(STDIN_FILENO, &mut input);
+    let got = read_full(&mut rt.reader(), &mut input)?;
     let line = ferry::program::run(&input[..got]);
     let bytes = line.bytes;
-    write_line(&bytes, line.len);
+    write_line(&mut io::writer(&rt), &bytes, line.len)
 }

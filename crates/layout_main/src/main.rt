@@ -1,60 +1,58 @@
 // Layout strings, one a line on standard input: for each, `layout ok` and the layout's words, or `layout refused R P D`.
 // The words are those of a transcript's layout: endianness, stack, three spaces, aggregate field, function pointers, mangling,
 // widths, non-integral spaces, type rows, pointer rows; alignments in bits.
+#![tactic(auto)]
+
 use flat::put::LAYOUT_WORDS;
-use libc::{STDIN_FILENO, STDOUT_FILENO};
+use inout::read_full;
+use std::io::{self, Input, Write};
 
-fn write_number(n: u64, behind: &[u8]) {
-    io::print_decimal(STDOUT_FILENO, n);
-    io::write_all(STDOUT_FILENO, behind);
-}
+// No input is longer.
+const SPACE: usize = 65_536;
 
-fn write_word(n: u64) {
-    io::write_all(STDOUT_FILENO, b" ");
-    io::print_decimal(STDOUT_FILENO, n);
-}
-
-fn write_words(words: &[u64], count: usize) {
+fn write_words<W: Write>(writer: &mut W, words: &[u64], count: usize) -> io::Result<()> {
     let mut i = 0;
     while i < words.len() {
         if i < count {
-            write_word(words[i]);
+            write!(writer, " {}", words[i])?;
         }
         i += 1;
     }
+    Ok(())
 }
 
-fn write_answer(value: &[u8]) {
+fn write_answer<W: Write>(writer: &mut W, value: &[u8]) -> io::Result<()> {
     let mapped = datalayout::map::from_str(value);
     let answer = mapped.answer;
     let refusal = answer.refusal();
     if refusal.number == 0 {
-        io::write_all(STDOUT_FILENO, b"layout ok");
+        writer.write_all(b"layout ok")?;
         let layout = mapped.layout;
         let mut words = [0u64; LAYOUT_WORDS];
         let count = flat::put::put_layout(&mut words, layout);
-        write_words(&words, count);
-        io::write_all(STDOUT_FILENO, b"\n");
-        return;
+        write_words(writer, &words, count)?;
+        return writer.write_all(b"\n");
     }
-    io::write_all(STDOUT_FILENO, b"layout refused ");
-    write_number(refusal.number, b" ");
-    write_number(refusal.place as u64, b" ");
-    write_number(refusal.detail as u64, b"\n");
+    writeln!(
+        writer,
+        "layout refused {} {} {}",
+        refusal.number, refusal.place, refusal.detail
+    )
 }
 
 // A last line needs no newline.
-fn write_answers(input: &[u8]) {
+fn write_answers<W: Write>(writer: &mut W, input: &[u8]) -> io::Result<()> {
     let mut at = 0;
     while at < input.len() {
         let end = fields::parts::part_end(input, at, b'\n');
-        write_answer(&input[at..end]);
+        write_answer(writer, &input[at..end])?;
         at = end + 1;
     }
+    Ok(())
 }
 
-fn main() {
-    let mut space = io::large_buffer();
-    let got = io::read_full(STDIN_FILENO, &mut space);
-    write_answers(&space[..got]);
+fn main(rt: HostRuntime) -> io::Result<()> {
+    let mut space = [0u8; SPACE];
+    let got = read_full(&mut rt.reader(), &mut space)?;
+    write_answers(&mut io::writer(&rt), &space[..got])
 }

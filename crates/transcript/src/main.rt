@@ -1,5 +1,7 @@
 // The transcript program: cases on standard input, each `op`, `length` and so many words; for each, on standard output, the answer in the
 // same form. Before a table is read every lent output is filled with one word, so that an output left unwritten shows.
+#![tactic(auto)]
+
 mod cases;
 mod checker_op;
 mod layout_op;
@@ -9,7 +11,8 @@ mod table_op;
 mod told;
 
 use cases::{NAMES, REFERENCES, ROWS, WITNESS};
-use libc::{STDIN_FILENO, STDOUT_FILENO};
+use inout::read_full;
+use std::io::{self, Input, Read, Write};
 use wire::words::put_stream;
 
 // "Limits: a payload of 65,536 words".
@@ -28,42 +31,60 @@ fn put_front(payload: &mut [u64], input: &[u8], bytes: usize) {
 }
 
 // So many words of standard input, laid over the front of the payload; whether there were so many.
-fn read_words(input: &mut [u8], payload: &mut [u64], words: usize) -> bool {
+fn read_words<R: Read>(
+    reader: &mut R,
+    input: &mut [u8],
+    payload: &mut [u64],
+    words: usize,
+) -> io::Result<bool> {
     if PAYLOAD_WORDS < words {
-        return false;
+        return Ok(false);
     }
     let bytes = words * 8;
     if bytes <= input.len() {
-        let got = io::read_full(STDIN_FILENO, &mut input[..bytes]);
+        let got = read_full(reader, &mut input[..bytes])?;
         put_front(payload, input, got);
-        return got == bytes;
+        return Ok(got == bytes);
     }
-    false
+    Ok(false)
 }
 
 // The same for a payload above the limit, of which nothing is kept.
-fn pass_over(input: &mut [u8], payload: &mut [u64], words: u64) -> bool {
+fn pass_over<R: Read>(
+    reader: &mut R,
+    input: &mut [u8],
+    payload: &mut [u64],
+    words: u64,
+) -> io::Result<bool> {
     let mut left = words;
     while PAYLOAD_WORDS as u64 <= left {
-        if !read_words(input, payload, PAYLOAD_WORDS) {
-            return false;
+        if !read_words(reader, input, payload, PAYLOAD_WORDS)? {
+            return Ok(false);
         }
         left -= PAYLOAD_WORDS as u64;
     }
-    read_words(input, payload, left as usize)
+    read_words(reader, input, payload, left as usize)
 }
 
 // Writes the answer that ends at `end`.
-fn write_answer(answer: &mut [u8], op: u64, end: usize) -> bool {
+fn write_answer<W: Write>(
+    writer: &mut W,
+    answer: &mut [u8],
+    op: u64,
+    end: usize,
+) -> io::Result<bool> {
     out::put_head(answer, op, end);
     if end <= answer.len() {
-        return io::write_all(STDOUT_FILENO, &answer[..end]);
+        writer.write_all(&answer[..end])?;
+        return Ok(true);
     }
-    false
+    Ok(false)
 }
 
 // One case; whether to go on. "Where the input ends inside a case the program stops after the last whole answer."
-fn take_case(
+fn take_case<R: Read, W: Write>(
+    reader: &mut R,
+    writer: &mut W,
     input: &mut [u8],
     payload: &mut [u64],
     rows: &mut [u64],
@@ -71,29 +92,34 @@ fn take_case(
     names: &mut [u8],
     witness: &mut [u64],
     answer: &mut [u8],
-) -> bool {
+) -> io::Result<bool> {
     let mut head_bytes = [0u8; 16];
-    let got = io::read_full(STDIN_FILENO, &mut head_bytes);
+    let got = read_full(reader, &mut head_bytes)?;
     if got < 16 {
-        return false;
+        return Ok(false);
     }
     let mut head = [0u64; 2];
     put_stream(&mut head, &head_bytes);
     let op = head[0];
     let length = head[1];
     if (PAYLOAD_WORDS as u64) < length {
-        return pass_over(input, payload, length) && write_answer(answer, op, out::HEAD_BYTES);
+        if !pass_over(reader, input, payload, length)? {
+            return Ok(false);
+        }
+        return write_answer(writer, answer, op, out::HEAD_BYTES);
     }
     let words = length as usize;
-    if !read_words(input, payload, words) {
-        return false;
+    if !read_words(reader, input, payload, words)? {
+        return Ok(false);
     }
     let end = cases::answer_to(op, payload, words, rows, refs, names, witness, answer);
-    write_answer(answer, op, end)
+    write_answer(writer, answer, op, end)
 }
 
 // A proved loop has to end, and nothing says that the input does: the cases are counted down from a number that no run uses up.
-fn take_cases(
+fn take_cases<R: Read, W: Write>(
+    reader: &mut R,
+    writer: &mut W,
     input: &mut [u8],
     payload: &mut [u64],
     rows: &mut [u64],
@@ -101,14 +127,18 @@ fn take_cases(
     names: &mut [u8],
     witness: &mut [u64],
     answer: &mut [u8],
-) {
-    let mut left = u64::MAX;
-    while left > 0 && take_case(input, payload, rows, refs, names, witness, answer) {
-        left -= 1;
+) -> io::Result<()> {
+    for _ in 0..u64::MAX {
+        if !take_case(
+            reader, writer, input, payload, rows, refs, names, witness, answer,
+        )? {
+            break;
+        }
     }
+    Ok(())
 }
 
-fn main() {
+fn main(rt: HostRuntime) -> io::Result<()> {
     let mut input = [0u8; PAYLOAD_BYTES];
     let mut payload = [0u64; PAYLOAD_WORDS];
     let mut rows = [0u64; ROWS];
@@ -117,6 +147,8 @@ fn main() {
     let mut witness = [0u64; WITNESS];
     let mut answer = [0u8; ANSWER_BYTES];
     take_cases(
+        &mut rt.reader(),
+        &mut io::writer(&rt),
         &mut input,
         &mut payload,
         &mut rows,
@@ -124,5 +156,5 @@ fn main() {
         &mut names,
         &mut witness,
         &mut answer,
-    );
+    )
 }
