@@ -4,7 +4,7 @@
 use mathlib.Core.Path.{◌≡◌, refl, sym, ap, ◌∙◌}
 use mathlib.Core.Bool.{true}
 use mathlib.Core.List.{List}
-use Prim.Native.Nat.{ℕ, ◌≤◌, ◌-◌}
+use Prim.Native.Nat.{ℕ, ◌≤◌}
 use native.Mathlib.Omega.{arith}
 use lib.Dec.{leb}
 use lib.ListN.{length, length-append, length-replicate}
@@ -27,7 +27,6 @@ use Rattle.walk.specs.Resolve.{entries_of, witness_by, witness_in}
 use Rattle.resolve.specs.Formed.{table_formed}
 use Rattle.resolve.proofs.Promises as walk
 use Rattle.resolve.proofs.Promises.{outcome-demand-3}
-use Rattle.ferry.specs.declared.Answer.{Answer}
 use Rattle.ferry.specs.declared.Answer.TheVariants.{Accepted, Refused}
 use Rattle.ferry.specs.Answers.{answer_by}
 use Rattle.ferry.specs.Reader.{keeps_by, resolved_in, result_of, whole_of}

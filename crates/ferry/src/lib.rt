@@ -1,4 +1,6 @@
 // The whole reader (01, "Refusal numbers" and "Program"): the two passes put together, and what the program does with bytes.
+#![tactic(auto)]
+
 pub mod program;
 pub mod read;
 pub mod refusal;

@@ -1,4 +1,6 @@
 // The layout record as flat words, for whoever lends a buffer of words and cannot take a record.
+#![tactic(auto)]
+
 mod defaults;
 mod lists;
 mod moves;

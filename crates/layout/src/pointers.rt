@@ -6,7 +6,7 @@ ghost use Rattle.layout.specs.Pointers.{same_space, updated_pointers};
 use units::align::Align;
 
 // Sizes are in bits.
-#[derive(Drop)]
+#[derive(Clone, Copy)]
 pub struct PointerAlignSpec {
     pub address_space: u64,
     pub pointer_size: u64,
@@ -19,7 +19,7 @@ pub struct PointerAlignSpec {
 pub const MAX_POINTER_ROWS: usize = 32;
 
 // The rows are the first `count`.
-#[derive(Drop)]
+#[derive(Clone, Copy)]
 pub struct PointerAlignSpecs {
     pub rows: [PointerAlignSpec; MAX_POINTER_ROWS],
     pub count: usize,

@@ -16,7 +16,7 @@ pub enum MaybeAlign {
     Of(Align),
 }
 
-#[derive(Drop)]
+#[derive(Clone, Copy)]
 pub enum FunctionPointerAlign {
     Unspecified,
     Independent(Align),
@@ -42,7 +42,7 @@ pub enum Memory {
     Alloca,
 }
 
-#[derive(Drop)]
+#[derive(Clone, Copy)]
 pub enum Listed {
     NativeIntegerWidths,
     NonIntegralAddressSpaces,

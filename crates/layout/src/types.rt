@@ -6,7 +6,7 @@ ghost use Rattle.layout.specs.Types.{rank_of, same_type, updated_types};
 use units::align::Align;
 
 // The width stands beside the kind, and is 0 for an aggregate.
-#[derive(Drop)]
+#[derive(Clone, Copy)]
 pub enum AlignedType {
     Integer,
     Vector,
@@ -14,7 +14,7 @@ pub enum AlignedType {
     Aggregate,
 }
 
-#[derive(Drop)]
+#[derive(Clone, Copy)]
 pub struct TypeAlignSpec {
     pub aligned_type: AlignedType,
     pub width: u64,
@@ -26,7 +26,7 @@ pub struct TypeAlignSpec {
 pub const MAX_TYPE_ROWS: usize = 64;
 
 // The rows are the first `count`.
-#[derive(Drop)]
+#[derive(Clone, Copy)]
 pub struct TypeAlignSpecs {
     pub rows: [TypeAlignSpec; MAX_TYPE_ROWS],
     pub count: usize,

@@ -10,11 +10,20 @@ use std::io::{self, Input, Write};
 // No input is longer.
 const SPACE: usize = 65_536;
 
+fn write_number<W: Write>(writer: &mut W, n: u64, behind: &[u8]) -> io::Result<()> {
+    write!(writer, "{n}")?;
+    writer.write_all(behind)
+}
+
+fn write_word<W: Write>(writer: &mut W, n: u64) -> io::Result<()> {
+    write!(writer, " {n}")
+}
+
 fn write_words<W: Write>(writer: &mut W, words: &[u64], count: usize) -> io::Result<()> {
     let mut i = 0;
     while i < words.len() {
         if i < count {
-            write!(writer, " {}", words[i])?;
+            write_word(writer, words[i])?;
         }
         i += 1;
     }
@@ -33,11 +42,10 @@ fn write_answer<W: Write>(writer: &mut W, value: &[u8]) -> io::Result<()> {
         write_words(writer, &words, count)?;
         return writer.write_all(b"\n");
     }
-    writeln!(
-        writer,
-        "layout refused {} {} {}",
-        refusal.number, refusal.place, refusal.detail
-    )
+    writer.write_all(b"layout refused ")?;
+    write_number(writer, refusal.number, b" ")?;
+    write_number(writer, refusal.place as u64, b" ")?;
+    write_number(writer, refusal.detail as u64, b"\n")
 }
 
 // A last line needs no newline.

@@ -1,4 +1,6 @@
 // "A struct's name can be asked for and comes back as the very part of the lent name buffer" (01, "Type stream and table").
+#![tactic(auto)]
+
 ghost use Rattle.std.specs.Prelude.{◌≡◌, length};
 ghost use Rattle.lookup.specs.Names.{stretch_of, has_name, IsName};
 

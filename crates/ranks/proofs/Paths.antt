@@ -19,7 +19,7 @@ pub each-of-mem : (P : ℕ → Type 0) (xs : List ℕ) → ((x : ℕ) → Memᴰ
 each-of-mem P [] h = tt
 each-of-mem P (x ∷ xs) h = (h x (Memᴰ.head refl), each-of-mem P xs (λ y m. h y (Memᴰ.tail m)))
 
-pub each_at : (P : ℕ → Type 0) {xs : List ℕ} {x : ℕ} → Memᴰ x xs → Each P xs → P x
+pub each_at : (P : ℕ → Type 0) {x : ℕ} {xs : List ℕ} → Memᴰ x xs → Each P xs → P x
 each_at P (Memᴰ.head q) e = rw q e.0
 each_at P (Memᴰ.tail m) e = each_at P m e.1
 

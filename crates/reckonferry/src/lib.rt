@@ -2,6 +2,8 @@
 // function is a call of the proved one below it and promises what that promises; nothing is asked of a caller that
 // C's types do not say. include/reckonferry.h is made from this file by tools/header: the comment over an item is
 // its comment there.
+#![tactic(auto)]
+
 ghost use Rattle.std.specs.Prelude.{◌≡◌, ◌∷◌, [], length};
 ghost use Rattle.table.specs.Buffers.{over};
 ghost use Rattle.ferry.specs.Reader.{lent_by};

@@ -1,4 +1,6 @@
 // The first pass over a type stream (01, "Type stream and table"): words to rows, references and names.
+#![tactic(auto)]
+
 use shapes::{Fault, Head};
 
 mod fill;
@@ -8,7 +10,7 @@ mod write;
 
 // How far the outputs are filled: entries, references, name bytes that structs have, and these with the pending name; and the last
 // entry's head (2026-01 drops it).
-#[derive(Drop)]
+#[derive(Clone, Copy)]
 pub struct Filled {
     pub entries: usize,
     pub refs: usize,
@@ -18,7 +20,7 @@ pub struct Filled {
 }
 
 // An entry, to be put behind so many rows. It keeps some of the last references, and `more` fields from `from` on are added.
-#[derive(Drop)]
+#[derive(Clone, Copy)]
 pub struct Put {
     pub head: Head,
     pub row: usize,

@@ -1,5 +1,7 @@
 // What document 01 asks of a reference: in which place it stands, which kinds may stand there, and whether it counts for ranks.
 // The walk and the checker both ask here.
+#![tactic(auto)]
+
 ghost use Rattle.std.specs.Prelude.{◌≡◌};
 ghost use Rattle.kinds.specs.Places.{allowed};
 ghost use Rattle.rules.specs.Places.{place_at, not_allowed};
@@ -14,7 +16,7 @@ use table::row::Row;
 pub const MAX_ENTRIES: u64 = row::MAX_ENTRIES;
 
 // The places of "Allowed kinds" (01), and that of a reference for which it has no line: a kind that has no references.
-#[derive(Drop)]
+#[derive(Clone, Copy)]
 pub enum Place {
     Pointee,
     ArrayElement,

@@ -1,5 +1,7 @@
 // What a record of the type stream says, by value: from its code and what was seen of its fields, with no output lent. A reader of
 // portions gathers the same (2026-04), and so does a question for one entry (2026-08).
+#![tactic(auto)]
+
 pub mod record;
 
 // What can be wrong with a record, in the order of the refusal numbers.
@@ -16,7 +18,7 @@ pub enum Fault {
 }
 
 // What a row says of an entry without its places.
-#[derive(Drop)]
+#[derive(Clone, Copy)]
 pub struct Head {
     pub kind: u64,
     pub number: u64,

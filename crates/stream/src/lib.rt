@@ -1,4 +1,6 @@
 // A type stream as records: what stands at a place; whether every record is whole, and what the NumEntry records state.
+#![tactic(auto)]
+
 ghost use Rattle.std.specs.Prelude.{◌≡◌, List, ◌++◌, ℕ};
 ghost use Rattle.stream.specs.Stream.{record_at};
 ghost use Rattle.stream.specs.Count.{num_entry_in, stated_by, survey_of};

@@ -120,13 +120,13 @@ fn take_case<R: Read, W: Write>(
 fn take_cases<R: Read, W: Write>(
     reader: &mut R,
     writer: &mut W,
-    input: &mut [u8],
+    input: &mut [u8; PAYLOAD_BYTES],
     payload: &mut [u64],
     rows: &mut [u64],
     refs: &mut [u64],
     names: &mut [u8],
     witness: &mut [u64],
-    answer: &mut [u8],
+    answer: &mut [u8; ANSWER_BYTES],
 ) -> io::Result<()> {
     for _ in 0..u64::MAX {
         if !take_case(

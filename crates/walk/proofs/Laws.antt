@@ -1,3 +1,4 @@
+pub mod Answers
 pub mod Judge
 pub mod Marks
 pub mod Fits

@@ -1,4 +1,6 @@
 // The second pass (01, "Resolution"): each entry's references are walked, its own rule is judged, and it gets its rank.
+#![tactic(auto)]
+
 pub mod judge;
 pub mod marks;
 pub mod walk;

@@ -23,7 +23,7 @@ use Rattle.shapes.proofs.Laws.Shapes.{last_field, shape_in-inside}
 use Rattle.formed.specs.Form.{formed}
 use Rattle.formed.proofs.Laws.Formed.{FormedEntry, Every}
 use Rattle.records.specs.Table.{Table, Room, fits, Deed, passes, pends, puts, refuses, form_of, entry_of, name_if}
-use Rattle.records.specs.Fill.{last_form, front_of, is_named, is_struct, named}
+use Rattle.records.specs.Fill.{last_form, front_of, is_named, is_struct}
 use Rattle.records.specs.Records.{deed_on, Outcome, go, stop, pending_after, after, step_of, whole, onward, run}
 use Rattle.records.proofs.Laws.Forms.{FairHead, Fair, shape_in-fair}
 

@@ -18,7 +18,6 @@ use Rattle.kinds.specs.declared.code.TypeCode.{TypeCode}
 use Rattle.kinds.specs.declared.code.TypeCode.TheVariants as code
 use Rattle.kinds.specs.Codes.{Numbered, codes, code_in, type_code}
 use Rattle.table.specs.declared.row.Row.{Row}
-use Rattle.table.specs.Entries.{Name}
 use Rattle.shapes.specs.declared.Head.{Head}
 use Rattle.shapes.specs.declared.Seen.{Seen}
 use Rattle.shapes.specs.declared.Fault.TheVariants.{LacksField, BadName, SpaceTooLarge}
@@ -28,7 +27,6 @@ use Rattle.shapes.specs.Shapes.{needed, adds, spaced, named_struct, opaque_if, w
 use Rattle.shapes.specs.Shapes.{shape_in}
 use Rattle.utf8.specs.Utf8.{is_utf8}
 use Rattle.formed.specs.Form.{formed}
-use Rattle.records.specs.Fill.{named}
 
 -- a head with a name's length, as a row
 abbrev row_by : Head → ℕ → Row

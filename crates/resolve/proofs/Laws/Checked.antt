@@ -57,6 +57,7 @@ module _ (rows refs ranks : List ℕ) (n e : ℕ) where
   every-inside : (l : List ℕ) (i r : ℕ) → every_from (refers rows ranks n e) i l ≡ true → Memᴰ r l
       → (r < n) × (counts r ≡ true → get_or ranks r 0 < get_or ranks e 0)
   unfolding every_from
+  every-inside [] i r h m = elim m [ ]
   every-inside (x ∷ xs) i r h (Memᴰ.head q) =
       let g = good_of i x (and-true (refers rows ranks n e i x) _ h).0 in
       rw q (g.inside, g.falls)

@@ -60,6 +60,17 @@ pub refs-walked : {rows refs ms : List ℕ} {d e : ℕ} {l : List ℕ} {a : Walk
     → StretchWalked rows refs ms d e (refs_at rows refs e) l a
 refs-walked {rows = rows} {refs = refs} {e = e} {row = row} {part = part} is cut w = rw (refs_at-clipped rows refs e row part is cut) at w
 
+pub called : {rows refs ms : List ℕ} {d e : ℕ} {l : List ℕ} {a : Walked} {row : Row} {part : Stretch}
+    → e < length ms → get_or ms e 0 ≡ 0 → Ready ms d d
+    → row ≡ row_at rows e → Clipped row.first row.count (length refs) part → length l ≡ length (set ms e (d + 1))
+    → StretchWalked rows refs (set ms e (d + 1)) (d + 1) e (take part.left (drop part.at refs)) l a
+    → EntryCalled rows refs ms d e l a
+called lt new ready is cut len w = record {
+  fresh = record { lt = lt; new = new; ready = ready };
+  len = len;
+  walked = refs-walked is cut w;
+}
+
 module _ {rows refs ms : List ℕ} {d e : ℕ} {l : List ℕ} {a : Walked} (h : EntryCalled rows refs ms d e l a) where
   pub same_length : length l ≡ length ms
   same_length = simp length-set at h.len

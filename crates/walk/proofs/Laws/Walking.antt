@@ -50,6 +50,11 @@ pub record Asked (rows refs ms₀ : List ℕ) (d e at left end : ℕ) (ms : List
 pub counts-as : {from to a b : Row} {r c : Bool} → a ≡ from → b ≡ to → r ≡ counted a b → r ≡ c → counted from to ≡ c
 counts-as {from = from} {b = b} p q s is = sym (ap (λ (x : Row). counted x b) p ∙ ap (counted from) q) ∙ sym s ∙ is
 
+pub asked : {rows refs ms₀ : List ℕ} {d e at left end : ℕ} {ms : List ℕ} {best i : ℕ} {a b : Row} {r c : Bool}
+    → Walking rows refs ms₀ d e at left end ms best i → i < end → get_or refs i 0 < length ms → a ≡ row_at rows e
+    → b ≡ row_at rows (get_or refs i 0) → r ≡ counted a b → r ≡ c → Asked rows refs ms₀ d e at left end ms best i c
+asked so_far more in_range p q s is = record { so_far = so_far; more = more; in_range = in_range; says = counts-as p q s is }
+
 pub Walking-first : {rows refs ms : List ℕ} {d e at left end : ℕ} → end ≡ at + left → end ≤ length refs → Ready ms d d
     → Walking rows refs ms d e at left end ms 0 at
 Walking-first {ms = ms} {d = d} {at = at} {left = left} {end = end} ends inside ready =

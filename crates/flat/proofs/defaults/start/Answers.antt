@@ -1,0 +1,7 @@
+-- `flat::defaults::start` meets its contract: the default layout's words over zeros.
+-- Assumes nothing.
+use Rattle.flat.proofs.Laws.Start.{default-held}
+use Rattle.flat.proofs.defaults.start.Goals as goal
+
+pub returns : goal.returns
+returns c = default-held c.args.out.now _ _ c.requires c.clear_words.ensures c.put_words.ensures
