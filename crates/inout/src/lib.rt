@@ -1,19 +1,21 @@
 // What the programs do with standard input, over std's `Read`.
 #![tactic(auto)]
 
-ghost use Rattle.std.specs.Prelude.{◌≤◌, length, IfOk};
+ghost use Rattle.std.specs.Prelude.{◌≤◌, ◌<◌, length, IfOk};
+ghost use Rattle.std.specs.Io.KnownBytes.{IsAtEnd};
 
 use std::io::{self, Read};
 
 // Reads until `buf` is full or the input ends, and answers how many bytes it put at the start of `buf`.
 pub fn read_full<R: Read>(reader: &mut R, buf: &mut [u8]) -> io::Result<usize>
-    ensures { IfOk result (λ n. n ≤ length buf.new) }
+    ensures inside { IfOk result (λ n. n ≤ length buf.new) }
+    ensures ended { IfOk result (λ n. n < length buf.new → IsAtEnd (R.remaining reader.new)) }
 {
     let mut done = 0;
     while done < buf.len() {
         let n = reader.read(&mut buf[done..])?;
         if n == 0 {
-            break;
+            return Ok(done);
         }
         done += n;
     }
