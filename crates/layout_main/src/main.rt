@@ -7,7 +7,7 @@ use flat::put::LAYOUT_WORDS;
 use inout::read_full;
 use std::io::{self, Input, Write};
 
-// No input is longer.
+// So many bytes of the input are read.
 const SPACE: usize = 65_536;
 
 fn write_number<W: Write>(writer: &mut W, n: u64, behind: &[u8]) -> io::Result<()> {

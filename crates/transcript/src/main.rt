@@ -116,7 +116,7 @@ fn take_case<R: Read, W: Write>(
     write_answer(writer, answer, op, end)
 }
 
-// A proved loop has to end, and nothing says that the input does: the cases are counted down from a number that no run uses up.
+// A proved loop has to end, and nothing says that the input does: the cases are counted, up to a number that no run reaches.
 fn take_cases<R: Read, W: Write>(
     reader: &mut R,
     writer: &mut W,
