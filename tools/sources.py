@@ -8,7 +8,7 @@ programs = {"ferry_main", "layout_main", "transcript"}
 
 def crates():
     """The crates of crates.txt, lowest first."""
-    return re.findall(r"(?m)^(\w+):", (root / "crates.txt").read_text())
+    return re.findall(r"(?m)^(\w+)(?: staticlib)?:", (root / "crates.txt").read_text())
 
 
 def public_functions(crate):

@@ -1,7 +1,7 @@
 // The library to link: the reader, the checker, the name lookup and the layout reader under plain C names. Each
 // function is a call of the proved one below it and promises what that promises; nothing is asked of a caller that
-// C's types do not say. include/reckonferry.h is made from this file by tools/header: the comment over an item is
-// its comment there.
+// C's types do not say. crates/reckonferry_c exports each under its name. include/reckonferry.h is made from this
+// file by tools/header: the comment over an item is its comment there.
 #![tactic(auto)]
 
 ghost use Rattle.std.specs.Prelude.{◌≡◌, ◌∷◌, [], length};
@@ -58,8 +58,7 @@ fn put_answer(out: &mut [u64], a: Answer)
 // the front of `witness`.
 //
 // What the four hold before is overwritten. Where one of them is too short for the table, that is refusal 9.
-#[unsafe(no_mangle)]
-pub extern "C" fn reckonferry_read_table(
+pub fn reckonferry_read_table(
     words: &[u64],
     rows: &mut [u64],
     refs: &mut [u64],
@@ -79,8 +78,7 @@ pub extern "C" fn reckonferry_read_table(
 // Whether `rows`, `refs` and `names` are a lawful table of `count` entries and `ranks` show that it has no cycle. It
 // shares only the smallest parts with the reader and trusts nobody: not the reader, not the caller. What
 // reckonferry_read_table accepts passes, with `witness` for the ranks.
-#[unsafe(no_mangle)]
-pub extern "C" fn reckonferry_check_table(
+pub fn reckonferry_check_table(
     rows: &[u64],
     refs: &[u64],
     names: &[u8],
@@ -95,16 +93,14 @@ pub extern "C" fn reckonferry_check_table(
 
 // Whether `entry` has a name: it is a whole row of `rows`, a struct, marked as named, and its stretch lies in
 // `names`. A name may be empty.
-#[unsafe(no_mangle)]
-pub extern "C" fn reckonferry_has_name(rows: &[u64], names: &[u8], entry: u64) -> bool
+pub fn reckonferry_has_name(rows: &[u64], names: &[u8], entry: u64) -> bool
     ensures { result ≡ has_name rows.now (length names.now) entry }
 {
     has_name(rows, names, TypeRef(entry))
 }
 
 // Where in `names` the name of `entry` starts, or 0 where it has none.
-#[unsafe(no_mangle)]
-pub extern "C" fn reckonferry_name_start(rows: &[u64], names: &[u8], entry: u64) -> usize
+pub fn reckonferry_name_start(rows: &[u64], names: &[u8], entry: u64) -> usize
     ensures { result ≡ start_of (stretch_of rows.now (length names.now) entry) }
 {
     let asked = TypeRef(entry);
@@ -117,8 +113,7 @@ pub extern "C" fn reckonferry_name_start(rows: &[u64], names: &[u8], entry: u64)
 
 // How many bytes the name of `entry` has, or 0 where it has none. They lie in `names` from reckonferry_name_start
 // on.
-#[unsafe(no_mangle)]
-pub extern "C" fn reckonferry_name_len(rows: &[u64], names: &[u8], entry: u64) -> usize
+pub fn reckonferry_name_len(rows: &[u64], names: &[u8], entry: u64) -> usize
     ensures { result ≡ length_of (stretch_of rows.now (length names.now) entry) }
 {
     let asked = TypeRef(entry);
@@ -143,12 +138,7 @@ pub extern "C" fn reckonferry_name_len(rows: &[u64], names: &[u8], entry: u64) -
 // preferred alignment, index size. Alignments are in bits.
 //
 // Returns how many words the layout has, at most LAYOUT_WORDS, also where fewer fit.
-#[unsafe(no_mangle)]
-pub extern "C" fn reckonferry_read_layout(
-    value: &[u8],
-    answer: &mut [u64],
-    layout: &mut [u64],
-) -> usize
+pub fn reckonferry_read_layout(value: &[u8], answer: &mut [u64], layout: &mut [u64]) -> usize
     ensures { ReadsLayout value.now answer.old layout.old
         result answer.new layout.new }
 {
