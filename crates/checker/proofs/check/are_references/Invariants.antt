@@ -7,7 +7,9 @@ use Rattle.checker.specs.Checked.{refers, every_from}
 use Rattle.checker.proofs.check.are_references.Given as goal
 
 abbrev pub invariant-loop-i : goal.invariant-loop-i
-invariant-loop-i l = (l.i ≤ length l.stretch) × (every_from (refers l.rows l.ranks l.n l.e.0) 0 l.stretch ≡ every_from (refers l.rows l.ranks l.n l.e.0) l.i (drop l.i l.stretch))
+invariant-loop-i l =
+    let good = refers l.rows l.ranks l.n l.e.0 in
+    (l.i ≤ length l.stretch) × (every_from good 0 l.stretch ≡ every_from good l.i (drop l.i l.stretch))
 
 abbrev pub decreases-loop-i : goal.decreases-loop-i
 decreases-loop-i l = length l.stretch - l.i

@@ -6,6 +6,5 @@ use Rattle.ferry.proofs.program.run.Goals as goal
 pub answer_to-requires : goal.answer_to-requires
 answer_to-requires c = sym c.is_stream.ensures ∙ c.if-is_stream.true
 
--- ambiguous: Line-of -> []
 pub returns-else-is_stream : goal.returns-else-is_stream
 returns-else-is_stream c = c.refused_line.ensures ∙ rw (sym c.is_stream.ensures ∙ c.if-is_stream.false)

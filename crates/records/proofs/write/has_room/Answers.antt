@@ -11,8 +11,6 @@ returns-then-refs-f c =
     room-refs c.args.p c.args.f _ _ _
     (omega arith) (omega arith)
 
--- ambiguous: end_of_lem -> []
-
 pub returns : goal.returns
 returns c =
     room-names c.args.p
