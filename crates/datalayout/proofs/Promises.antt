@@ -8,12 +8,13 @@ use native.Mathlib.Omega.{arith}
 use lib.Dec.{eqb, ltb}
 use lib.ListN.{length}
 use borrow.Author.Tests.{ltb-true, ltb-false}
+use Rattle.std.proofs.Common.{Ok, Err}
 use Rattle.laws.proofs.Conds.{by_cond}
 use Rattle.layout.specs.declared.record.DataLayout.{DataLayout}
 use Rattle.layout.specs.Defaults.{default_layout}
 use Rattle.fields.specs.declared.numbers.Fault.{Fault}
 use Rattle.fields.specs.Parts.{dash, parts_of}
-use Rattle.datalayout.specs.declared.answer.Answer.TheVariants.{Taken, BadEncoding, Refused}
+use Rattle.datalayout.specs.declared.error.Error.TheVariants.{BadEncoding, Refused}
 use Rattle.datalayout.specs.Strings.{ascii_up_to, taken_with, refused_with, specs_from, mapped}
 use Rattle.datalayout.specs.Promises.{joined, offset, Each, Accepted, RefusedAt, NotAsciiAt, Sound}
 use Rattle.datalayout.proofs.Laws.Ascii.{ascii_up_to-before, ascii_up_to-at}
@@ -29,12 +30,12 @@ pub specs-clean : (s : List ℕ) → Each (λ spec. Each (λ byte. eqb byte dash
 specs-clean s = parts_of-clean dash s
 
 -- "the layout of an accepted string is that of its specs applied in turn", and there is no other accepted string
-pub accepted : (s : List ℕ) → (mapped s).answer ≡ Taken → Accepted s (mapped s).layout
+pub accepted : (s : List ℕ) → (mapped s).answer ≡ Ok tt → Accepted s (mapped s).layout
 unfolding mapped
 accepted s = go (ltb (ascii_up_to s) (length s)) refl
   where
     go : (t : Bool) → ltb (ascii_up_to s) (length s) ≡ t
-        → (cond t (refused_with (BadEncoding (ascii_up_to s))) (specs_from default_layout 0 (parts_of dash s))).answer ≡ Taken
+        → (cond t (refused_with (BadEncoding (ascii_up_to s))) (specs_from default_layout 0 (parts_of dash s))).answer ≡ Ok tt
         → Accepted s (cond t (refused_with (BadEncoding (ascii_up_to s))) (specs_from default_layout 0 (parts_of dash s))).layout
     go true e taken = let z : ◌≡◌ {A = ℕ} 0 1 = cc in absurd (omega arith)
     go false e taken =
@@ -55,12 +56,12 @@ accepts s layout a = go (ltb (ascii_up_to s) (length s)) refl
     go false e = specs_from-of-passes (parts_of dash s) default_layout layout 0 a.passes
 
 -- "the place of a refusal is the offset of the first spec that breaks a rule and all specs before it pass"
-pub refused : (s : List ℕ) (fault : Fault) (place : ℕ) → (mapped s).answer ≡ Refused fault place → RefusedAt s fault place
+pub refused : (s : List ℕ) (fault : Fault) (place : ℕ) → (mapped s).answer ≡ Err (Refused fault place) → RefusedAt s fault place
 unfolding mapped
 refused s fault place = go (ltb (ascii_up_to s) (length s))
   where
     go : (t : Bool) → (cond t (refused_with (BadEncoding (ascii_up_to s))) (specs_from default_layout 0 (parts_of dash s))).answer
-        ≡ Refused fault place
+        ≡ Err (Refused fault place)
         → RefusedAt s fault place
     go true h = let z : ◌≡◌ {A = ℕ} 0 1 = cc in absurd (omega arith)
     go false h =
@@ -79,13 +80,13 @@ refused s fault place = go (ltb (ascii_up_to s) (length s))
         }
 
 -- "Non-ASCII anywhere: 21 first, place its first such byte."
-pub not_ascii : (s : List ℕ) (place : ℕ) → (mapped s).answer ≡ BadEncoding place → NotAsciiAt s place
+pub not_ascii : (s : List ℕ) (place : ℕ) → (mapped s).answer ≡ Err (BadEncoding place) → NotAsciiAt s place
 unfolding mapped
 not_ascii s place = go (ltb (ascii_up_to s) (length s)) refl
   where
     go : (t : Bool) → ltb (ascii_up_to s) (length s) ≡ t
         → (cond t (refused_with (BadEncoding (ascii_up_to s))) (specs_from default_layout 0 (parts_of dash s))).answer
-        ≡ BadEncoding place → NotAsciiAt s place
+        ≡ Err (BadEncoding place) → NotAsciiAt s place
     go true e h =
         let here : ascii_up_to s ≡ place = cc in
         let lt = ltb-true (ascii_up_to s) (length s) e in

@@ -6,16 +6,13 @@
 --     NotAsciiAt s place           "21 first, place its first such byte"
 --     Sound layout                 alignments, keys and counts of every layout that is handed back
 -- Assumes nothing.
-use Rattle.std.specs.Prelude.{◌≡◌, Bool, false, List, [], ◌∷◌, ◌++◌, ℕ, ◌+◌, ◌*◌, ◌^◌, ◌≤◌, ◌<◌, length, get_or, take, drop}
+use Rattle.std.specs.Prelude.{◌≡◌, Bool, false, Option, Some, None, Ok, Err, List, [], ◌∷◌, ◌++◌, ℕ, ◌+◌, ◌*◌, ◌^◌, ◌≤◌, ◌<◌, length, get_or, take, drop}
 use Rattle.units.specs.declared.align.Align.{Align}
 use Rattle.units.specs.Align.{bits_in_byte}
 use Rattle.layout.specs.declared.pointers.PointerAlignSpec.{PointerAlignSpec}
 use Rattle.layout.specs.declared.record.DataLayout.{DataLayout}
 use Rattle.layout.specs.declared.record.FunctionPointerAlign.{FunctionPointerAlign}
-use Rattle.layout.specs.declared.record.FunctionPointerAlign.TheVariants.{Unspecified as AnyFunction}
 use Rattle.layout.specs.declared.record.FunctionPointerAlign.TheVariants.{Independent, MultipleOfFunctionAlign}
-use Rattle.layout.specs.declared.record.MaybeAlign.{MaybeAlign}
-use Rattle.layout.specs.declared.record.MaybeAlign.TheVariants.{Unspecified, Of}
 use Rattle.layout.specs.declared.types.TypeAlignSpec.{TypeAlignSpec}
 use Rattle.layout.specs.Defaults.{default_layout}
 use Rattle.layout.specs.Numbers.{max_numbers}
@@ -26,7 +23,6 @@ use Rattle.fields.specs.Parts.{dash, parts_of}
 use Rattle.spec.specs.Specs.{spec_in}
 use Rattle.spec.specs.Typed.{bits_of}
 use Rattle.datalayout.specs.declared.apply.Applied.{Applied}
-use Rattle.datalayout.specs.declared.apply.Outcome.TheVariants.{Done, Refused}
 use Rattle.datalayout.specs.Apply.{applied}
 
 -- parts with a separator between each two, and how many bytes stand before the one behind them
@@ -45,7 +41,7 @@ after layout spec = applied layout (spec_in spec)
 
 abbrev pub Passes : DataLayout → List (List ℕ) → DataLayout → Type 0
 Passes layout [] last = last ≡ layout
-Passes layout (spec ∷ specs) last = ((after layout spec).outcome ≡ Done) × Passes (after layout spec).layout specs last
+Passes layout (spec ∷ specs) last = ((after layout spec).outcome ≡ Ok tt) × Passes (after layout spec).layout specs last
 
 -- every byte is ASCII, and the layout is that of all specs in turn
 pub record Accepted (s : List ℕ) (layout : DataLayout) : Type 0 where
@@ -60,7 +56,7 @@ pub record RefusedAt (s : List ℕ) (fault : Fault) (place : ℕ) : Type 0 where
   pub layout : DataLayout
   pub split : parts_of dash s ≡ earlier ++ spec ∷ later
   pub passes : Passes default_layout earlier layout
-  pub breaks : (after layout spec).outcome ≡ Refused fault
+  pub breaks : (after layout spec).outcome ≡ Err fault
   pub at_offset : place ≡ offset earlier
   pub stands : take (length spec) (drop place s) ≡ spec
 
@@ -73,14 +69,14 @@ pub record NotAsciiAt (s : List ℕ) (place : ℕ) : Type 0 where
 abbrev pub PowerOfTwo : Align → Type 0
 PowerOfTwo align = bits_of align ≡ bits_in_byte * 2 ^ align.0
 
-abbrev pub StackAligned : MaybeAlign → Type 0
-StackAligned Unspecified = Unit {0}
-StackAligned (Of align) = PowerOfTwo align
+abbrev pub StackAligned : Option Align → Type 0
+StackAligned None = Unit {0}
+StackAligned (Some align) = PowerOfTwo align
 
-abbrev pub FunctionAligned : FunctionPointerAlign → Type 0
-FunctionAligned AnyFunction = Unit {0}
-FunctionAligned (Independent align) = PowerOfTwo align
-FunctionAligned (MultipleOfFunctionAlign align) = PowerOfTwo align
+abbrev pub FunctionAligned : Option FunctionPointerAlign → Type 0
+FunctionAligned None = Unit {0}
+FunctionAligned (Some (Independent align)) = PowerOfTwo align
+FunctionAligned (Some (MultipleOfFunctionAlign align)) = PowerOfTwo align
 
 abbrev pub TypeAligned : TypeAlignSpec → Type 0
 TypeAligned row = PowerOfTwo row.abi_alignment × PowerOfTwo row.preferred_alignment

@@ -2,17 +2,17 @@
 -- override." "Otherwise place is the byte offset of the spec; detail is 0; the layout returned with a refusal is the default one."
 --     ascii_up_to s                        how many bytes stand before the first that is not ASCII
 --     specs_from layout place specs       the answer from a layout on, where the first of the specs stands at `place`
+--     handed result                       the answer and the layout, by how the specs end
 --     mapped s                           the answer to the string s, and the layout
 -- Assumes nothing.
-use Rattle.std.specs.Prelude.{cond, List, [], ◌∷◌, ℕ, suc, ◌+◌, ltb, length}
+use Rattle.std.specs.Prelude.{cond, Result, Ok, Err, List, [], ◌∷◌, ℕ, suc, ◌+◌, ltb, length}
 use Rattle.layout.specs.declared.record.DataLayout.{DataLayout}
 use Rattle.layout.specs.Defaults.{default_layout}
+use Rattle.fields.specs.declared.numbers.Fault.{Fault}
 use Rattle.spec.specs.Edition.{specs_of}
 use Rattle.spec.specs.Specs.{spec_in}
-use Rattle.datalayout.specs.declared.answer.Answer.{Answer}
-use Rattle.datalayout.specs.declared.answer.Answer.TheVariants.{Taken, BadEncoding, Refused}
-use Rattle.datalayout.specs.declared.apply.Outcome.{Outcome}
-use Rattle.datalayout.specs.declared.apply.Outcome.TheVariants.{Done, Refused as Fails}
+use Rattle.datalayout.specs.declared.error.Error.{Error}
+use Rattle.datalayout.specs.declared.error.Error.TheVariants.{BadEncoding, Refused}
 use Rattle.datalayout.specs.declared.map.Mapped.{Mapped}
 use Rattle.datalayout.specs.Apply.{applied}
 
@@ -21,16 +21,20 @@ ascii_up_to [] = 0
 ascii_up_to (byte ∷ bytes) = cond (ltb byte 128) (suc (ascii_up_to bytes)) 0
 
 abbrev pub taken_with : DataLayout → Mapped
-taken_with layout = record { answer = Taken; layout = layout }
+taken_with layout = record { answer = Ok tt; layout = layout }
 
 -- "the layout returned with a refusal is the default one"
-abbrev pub refused_with : Answer → Mapped
-refused_with answer = record { answer = answer; layout = default_layout }
+abbrev pub refused_with : Error → Mapped
+refused_with error = record { answer = Err error; layout = default_layout }
+
+abbrev pub handed : Result DataLayout Error → Mapped
+handed (Ok layout) = taken_with layout
+handed (Err error) = refused_with error
 
 -- a spec's fault at its place, or what follows
-abbrev pub onward : Outcome → ℕ → Mapped → Mapped
-onward Done place next = next
-onward (Fails fault) place next = refused_with (Refused fault place)
+abbrev pub onward : Result (Unit {0}) Fault → ℕ → Mapped → Mapped
+onward (Ok done) place next = next
+onward (Err fault) place next = refused_with (Refused fault place)
 
 -- "specs in order": the next one stands behind this one and a dash
 unfoldable pub specs_from : DataLayout → ℕ → List (List ℕ) → Mapped

@@ -1,90 +1,74 @@
 // A spec applied to the record: one field changes, or the list that it needs is full.
-ghost use Rattle.std.specs.Prelude.{◌≡◌};
-ghost use Rattle.datalayout.specs.Apply.{done_with, type_applied, pointer_applied, applied};
+ghost use Rattle.std.specs.Prelude.{◌≡◌, MatchOption};
+ghost use Rattle.fields.specs.declared.numbers.Fault.TheVariants.{ListFull};
+ghost use Rattle.layout.specs.declared.record.DataLayout.{DataLayout};
+ghost use Rattle.datalayout.specs.Apply.{done_with, refused_by, applied};
 
 use fields::numbers::Fault;
-use layout::pointers::PointerAlignSpec;
-use layout::record::{DataLayout, MaybeAlign};
-use layout::types::TypeAlignSpec;
-use spec::spec::{Read, Spec};
-
-#[derive(Drop)]
-pub enum Outcome {
-    Done,
-    Refused(Fault),
-}
+use layout::record::DataLayout;
+use spec::spec::Spec;
 
 // The layout is as it was where the spec is refused.
+// Kept: what may not change: the definitions (`Passes`, `RefusedAt`) name the layout beside a refusal too.
 #[derive(Drop)]
 pub struct Applied {
-    pub outcome: Outcome,
+    pub outcome: Result<(), Fault>,
     pub layout: DataLayout,
-}
-
-fn apply_type(layout: DataLayout, row: TypeAlignSpec) -> Applied
-    ensures { result ≡ type_applied layout row }
-{
-    let types = layout.type_alignments;
-    let updated = types.update(row);
-    if updated.full {
-        return Applied {
-            outcome: Outcome::Refused(Fault::ListFull),
-            layout,
-        };
-    }
-    let specs = updated.specs;
-    let next = layout.with_types(specs);
-    Applied {
-        outcome: Outcome::Done,
-        layout: next,
-    }
-}
-
-fn apply_pointer(layout: DataLayout, row: PointerAlignSpec) -> Applied
-    ensures { result ≡ pointer_applied layout row }
-{
-    let pointers = layout.pointer_alignments;
-    let updated = pointers.update(row);
-    if updated.full {
-        return Applied {
-            outcome: Outcome::Refused(Fault::ListFull),
-            layout,
-        };
-    }
-    let specs = updated.specs;
-    let next = layout.with_pointers(specs);
-    Applied {
-        outcome: Outcome::Done,
-        layout: next,
-    }
 }
 
 fn done(layout: DataLayout) -> Applied
     ensures { result ≡ done_with layout }
 {
     Applied {
-        outcome: Outcome::Done,
+        outcome: Ok(()),
         layout,
     }
 }
 
-pub fn apply(layout: DataLayout, read: Read) -> Applied
+fn refused(fault: Fault, layout: DataLayout) -> Applied
+    ensures { result ≡ refused_by fault layout }
+{
+    Applied {
+        outcome: Err(fault),
+        layout,
+    }
+}
+
+// "31 exactly if one more is needed".
+fn put<R: Drop, F: FnOnce(DataLayout, R) -> DataLayout>(
+    layout: DataLayout,
+    rows: Option<R>,
+    with: F,
+) -> Applied
+    requires { F.IsAlwaysCallable with }
+    ensures { MatchOption rows (result ≡ refused_by ListFull layout)
+        (λ some. (next : DataLayout) × F.post with layout some next × (result ≡ done_with next)) }
+{
+    match rows {
+        Some(rows) => done(with(layout, rows)),
+        None => refused(Fault::ListFull, layout),
+    }
+}
+
+#[tactic(auto, unfolding(crate::specs::Apply::applied))]
+pub fn apply(layout: DataLayout, read: Result<Spec, Fault>) -> Applied
     ensures { result ≡ applied layout read }
 {
-    let said = read.spec;
-    let numbers = read.numbers;
-    match said {
-        Spec::Endianness(endian) => done(layout.with_endianness(endian)),
-        Spec::Stack(align) => done(layout.with_stack(MaybeAlign::Of(align))),
-        Spec::Space(memory, space) => done(layout.with_space(memory, space)),
-        Spec::Typed(row) => apply_type(layout, row),
-        Spec::Pointer(row) => apply_pointer(layout, row),
-        Spec::FunctionPointer(align) => done(layout.with_function_pointer(align)),
-        Spec::Mangled(mangling) => done(layout.with_mangling(mangling)),
-        Spec::Numbered(listed) => done(layout.with_numbers(listed, numbers)),
-        Spec::Refused(fault) => Applied {
-            outcome: Outcome::Refused(fault),
-            layout,
-        },
+    match read {
+        Ok(Spec::Endianness(endian)) => done(layout.with_endianness(endian)),
+        Ok(Spec::Stack(align)) => done(layout.with_stack(Some(align))),
+        Ok(Spec::Space(memory, space)) => done(layout.with_space(memory, space)),
+        Ok(Spec::Typed(row)) => {
+            let types = layout.type_alignments.update(row);
+            put(layout, types, DataLayout::with_types)
+        }
+        Ok(Spec::Pointer(row)) => {
+            let pointers = layout.pointer_alignments.update(row);
+            put(layout, pointers, DataLayout::with_pointers)
+        }
+        Ok(Spec::FunctionPointer(align)) => done(layout.with_function_pointer(Some(align))),
+        Ok(Spec::Mangled(mangling)) => done(layout.with_mangling(Some(mangling))),
+        Ok(Spec::Numbered(listed, numbers)) => done(layout.with_numbers(listed, numbers)),
+        Err(fault) => refused(fault, layout),
     }
 }

@@ -5,33 +5,32 @@
 --     Reader3        once the records have passed as es: what demand 3 says of the answer and of the witness;  Demanded  it does
 --     OneAnswer      no second answer and no other outputs fit the contract of any public function
 -- Assumes nothing.
-use Rattle.std.specs.Prelude.{◌≡◌, List, ℕ, length}
+use Rattle.std.specs.Prelude.{◌≡◌, List, ℕ, length, Ok, Err}
+use Rattle.units.specs.declared.refusal.Refusal.{Refusal}
 use Rattle.table.specs.Buffers.{zeros, padded}
 use Rattle.table.specs.Entries.{Entry}
 use Rattle.table.specs.Rows.{rows_of, refs_of, names_of}
 use Rattle.lookup.specs.Names.{IsName}
 use Rattle.records.specs.Promises as records
-use Rattle.records.specs.Read.{taken, reading, room_of}
+use Rattle.records.specs.Read.{reading, room_of}
 use Rattle.walk.specs.Answers.{Paper, cycle}
 use Rattle.resolve.specs.Promises as resolve
 use Rattle.resolve.specs.Promises.{Demand3}
-use Rattle.ferry.specs.declared.Answer.{Answer}
-use Rattle.ferry.specs.declared.Answer.TheVariants.{Accepted, Refused}
-use Rattle.ferry.specs.Answers.{on_paper}
+use Rattle.ferry.specs.Answers.{Answer, on_paper}
 use Rattle.ferry.specs.Reader.{Lent, Reads}
 
 -- demand 1: "A refusal .. zeroes every lent output but a shown ring."
 abbrev pub Zeroed : Type 0
 Zeroed =
-    (words : List ℕ) (lent : Lent) (number place detail : ℕ) (rows refs names w : List ℕ)
-    → Reads words lent (Refused number place detail) rows refs names w
+    (words : List ℕ) (lent : Lent) (refusal : Refusal) (rows refs names w : List ℕ)
+    → Reads words lent (Err refusal) rows refs names w
     → (rows ≡ zeros lent.rows) × (refs ≡ zeros lent.refs) × (names ≡ zeros lent.names)
-    × ((number ≡ cycle → ⊥) → w ≡ zeros lent.witness)
+    × ((refusal.number ≡ cycle → ⊥) → w ≡ zeros lent.witness)
 
 -- the records say the entries es, n of them, and the outputs hold their flat form with zeros behind it
 pub record Flattened (words : List ℕ) (lent : Lent) (n : ℕ) (rows refs names : List ℕ) : Type 0 where
   pub entries : List Entry
-  pub passed : reading (room_of lent.rows lent.refs lent.names lent.witness) words ≡ taken entries
+  pub passed : reading (room_of lent.rows lent.refs lent.names lent.witness) words ≡ Ok entries
   pub counted : n ≡ length entries
   pub rows_are : rows ≡ padded lent.rows (rows_of entries)
   pub refs_are : refs ≡ padded lent.refs (refs_of entries)
@@ -40,7 +39,7 @@ pub record Flattened (words : List ℕ) (lent : Lent) (n : ℕ) (rows refs names
 -- demand 2: "Ranks alone don't tie rows to records; demand 2 does."
 abbrev pub Tied : Type 0
 Tied =
-    (words : List ℕ) (lent : Lent) (n : ℕ) (rows refs names w : List ℕ) → Reads words lent (Accepted n) rows refs names w
+    (words : List ℕ) (lent : Lent) (n : ℕ) (rows refs names w : List ℕ) → Reads words lent (Ok n) rows refs names w
     → Flattened words lent n rows refs names
 
 -- the answer a is a verdict on the flat form of es, and demand 3 holds of the verdict and of the witness w
@@ -54,7 +53,7 @@ pub record Reader3 (lent : Lent) (es : List Entry) (a : Answer) (w : List ℕ) :
 abbrev pub Demanded : Type 0
 Demanded =
     (words : List ℕ) (lent : Lent) (es : List Entry) (a : Answer) (rows refs names w : List ℕ)
-    → reading (room_of lent.rows lent.refs lent.names lent.witness) words ≡ taken es → Reads words lent a rows refs names w
+    → reading (room_of lent.rows lent.refs lent.names lent.witness) words ≡ Ok es → Reads words lent a rows refs names w
     → Reader3 lent es a w
 
 -- `lookup::name`: its bytes and its place

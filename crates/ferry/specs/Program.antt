@@ -3,17 +3,16 @@
 --     answer_to bytes    what the reader answers to the words of the bytes, in the outputs that the program lends
 --     text_of bytes      the line that the program writes
 -- Assumes nothing.
-use Rattle.std.specs.Prelude.{cond, List, ℕ, length}
+use Rattle.std.specs.Prelude.{cond, List, ℕ, length, Ok, Err}
 use Rattle.wire.specs.Words.{is_stream, words_in}
 use Rattle.wire.specs.Lines.{ok_text, refused_text}
-use Rattle.ferry.specs.declared.Answer.{Answer}
-use Rattle.ferry.specs.declared.Answer.TheVariants.{Accepted, Refused}
+use Rattle.ferry.specs.Answers.{Answer}
 use Rattle.ferry.specs.Reader.{Lent, whole_of}
 
 -- "It writes one line: `table ok N` or `table refused R P D`"
 abbrev pub line_text : Answer → List ℕ
-line_text (Accepted entries) = ok_text entries
-line_text (Refused number place detail) = refused_text number place detail
+line_text (Ok entries) = ok_text entries
+line_text (Err r) = refused_text r.number r.place r.detail
 
 -- "It lends 8,192 words for rows, 8,192 for references, 8,192 name bytes and 1,024 witness words."
 abbrev pub lends : Lent

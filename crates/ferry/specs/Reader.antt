@@ -4,16 +4,16 @@
 --     whole_of lent ws     the outcome for the stream ws
 --     Reads ..            the answer and the outputs are that outcome
 -- Assumes nothing.
-use Rattle.std.specs.Prelude.{◌≡◌, List, ℕ, length}
+use Rattle.std.specs.Prelude.{◌≡◌, List, ℕ, length, Result, Ok, Err}
 use Rattle.table.specs.Buffers.{zeros, padded}
+use Rattle.table.specs.Entries.{Entry}
 use Rattle.table.specs.Rows.{rows_of, refs_of, names_of}
 use Rattle.ranks.specs.Walk as ranks
 use Rattle.rules.specs.Lawful.{table_of}
-use Rattle.records.specs.Read.{Result, taken, refused, reading, room_of}
+use Rattle.records.specs.declared.Error.{Error}
+use Rattle.records.specs.Read.{reading, room_of}
 use Rattle.walk.specs.Resolve.{entries_of, witness_in}
-use Rattle.ferry.specs.declared.Answer.{Answer}
-use Rattle.ferry.specs.declared.Answer.TheVariants.{Accepted, Refused}
-use Rattle.ferry.specs.Answers.{first_answer, answer_by}
+use Rattle.ferry.specs.Answers.{Answer, first_answer, answer_by}
 
 pub record Lent : Type 0 where
   pub rows : ℕ
@@ -37,8 +37,8 @@ outcome a rows refs names witness = record { answer = a; rows = rows; refs = ref
 
 -- "Every refusal: outputs all zero, except that 19 leaves its ring first in the witness."
 abbrev pub keeps_by : Answer → List ℕ → List ℕ
-keeps_by (Accepted entries) l = l
-keeps_by (Refused number place detail) l = zeros (length l)
+keeps_by (Ok entries) l = l
+keeps_by (Err refusal) l = zeros (length l)
 
 -- the second pass over the rows and references that the first left
 abbrev pub resolved_in : List ℕ → List ℕ → ℕ → ℕ → ranks.Out
@@ -51,9 +51,9 @@ second_of rows refs names witness entries =
     outcome a (keeps_by a rows) (keeps_by a refs) (keeps_by a names) (padded witness (witness_in o))
 
 -- "After acceptance the unused rest of every output is 0."
-abbrev pub result_of : Lent → Result → Outcome
-result_of lent (refused a) = outcome (first_answer a) (zeros lent.rows) (zeros lent.refs) (zeros lent.names) (zeros lent.witness)
-result_of lent (taken es) =
+abbrev pub result_of : Lent → Result (List Entry) Error → Outcome
+result_of lent (Err error) = outcome (first_answer (Err error)) (zeros lent.rows) (zeros lent.refs) (zeros lent.names) (zeros lent.witness)
+result_of lent (Ok es) =
     second_of (padded lent.rows (rows_of es)) (padded lent.refs (refs_of es)) (padded lent.names (names_of es)) lent.witness (length es)
 
 unfoldable pub whole_of : Lent → List ℕ → Outcome

@@ -2,9 +2,9 @@
 --     samples             words, the lengths of the lent outputs, the answer, and every word of every output
 --     Right samples       each of them comes out so
 -- Assumes nothing.
-use Rattle.std.specs.Prelude.{◌≡◌, List, [], ◌∷◌, ℕ}
+use Rattle.std.specs.Prelude.{◌≡◌, List, [], ◌∷◌, ℕ, Ok, Err}
 use Rattle.table.specs.Buffers.{zeros}
-use Rattle.ferry.specs.declared.Answer.TheVariants.{Accepted, Refused}
+use Rattle.records.specs.Answers.{refusal}
 use Rattle.ferry.specs.Reader.{Lent, Outcome, outcome, whole_of}
 
 pub record Sample : Type 0 where
@@ -20,7 +20,7 @@ abbrev lends : (rows refs names witness : ℕ) → Lent
 lends rows refs names witness = record { rows = rows; refs = refs; names = names; witness = witness }
 
 abbrev accepts : List ℕ → Lent → ℕ → (rows refs names ranks : List ℕ) → Sample
-accepts ws lent entries rows refs names ranks = record { words = ws; lent = lent; result = outcome (Accepted entries) rows refs names ranks }
+accepts ws lent entries rows refs names ranks = record { words = ws; lent = lent; result = outcome (Ok entries) rows refs names ranks }
 
 -- a refusal: all outputs zero but the ring that it shows
 abbrev refuses : List ℕ → Lent → (number place detail : ℕ) → (witness : List ℕ) → Sample
@@ -28,7 +28,7 @@ refuses ws lent number place detail witness =
     record {
       words = ws;
       lent = lent;
-      result = outcome (Refused number place detail) (zeros lent.rows) (zeros lent.refs) (zeros lent.names) witness;
+      result = outcome (Err (refusal number place detail)) (zeros lent.rows) (zeros lent.refs) (zeros lent.names) witness;
     }
 
 abbrev pub samples : List Sample

@@ -3,11 +3,8 @@
 
 pub mod program;
 pub mod read;
-pub mod refusal;
 
-// What the reader answers: so many entries; or a refusal's number, place and detail.
-#[derive(Drop)]
-pub enum Answer {
-    Accepted(u64),
-    Refused(u64, u64, u64),
-}
+use units::refusal::Refusal;
+
+// What the reader answers: so many entries, or a refusal.
+pub type Answer = Result<u64, Refusal>;

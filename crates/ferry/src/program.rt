@@ -1,6 +1,5 @@
 // "Program" (01): the bytes of standard input to the line of the answer.
 ghost use Rattle.std.specs.Prelude.{◌≡◌, true, length};
-ghost use Rattle.wire.specs.Lines.{line_of};
 ghost use Rattle.ferry.specs.Program.{text_of, line_text, answer_to};
 ghost use Rattle.wire.specs.Words.{is_stream};
 
@@ -21,13 +20,13 @@ const NAMES: usize = 8_192;
 
 const WITNESS: usize = 1_024;
 
-// The line of an answer.
+// The line of an answer. Kept: `Display` is no plainer (wire, `ok_line`).
 pub fn line_of(a: Answer) -> Line
-    ensures { result ≡ line_of (line_text a) }
+    ensures { result.bytes ≡ line_text a }
 {
     match a {
-        Answer::Accepted(entries) => ok_line(entries),
-        Answer::Refused(number, place, detail) => refused_line(number, place, detail),
+        Ok(entries) => ok_line(entries),
+        Err(refusal) => refused_line(refusal.number, refusal.place, refusal.detail),
     }
 }
 
@@ -47,7 +46,7 @@ fn answer_to(input: &[u8]) -> Answer
 
 // "over 65,536 bytes or not a multiple of 8 counts as 1, 0, 0"
 pub fn run(input: &[u8]) -> Line
-    ensures { result ≡ line_of (text_of input.now) }
+    ensures { result.bytes ≡ text_of input.now }
 {
     if is_stream(input.len()) {
         line_of(answer_to(input))

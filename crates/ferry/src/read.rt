@@ -3,10 +3,10 @@ ghost use Rattle.std.specs.Prelude.{length};
 ghost use Rattle.ferry.specs.Reader.{Reads, Second, lent_by};
 
 use crate::Answer;
-use crate::refusal::{of_first, of_second};
-use table::buffer::{clear_bytes, clear_words};
+use units::refusal::Refusal;
 use walk::walk::resolve;
 
+// Kept: the four outputs are lent one by one, as C lends them; a caller that lends them in a struct is not proved (as in records).
 // The second pass over what the first left; a refusal of it takes back what the first wrote.
 fn second(
     rows: &mut [u64],
@@ -18,14 +18,13 @@ fn second(
     ensures { Second rows.old refs.old names.old (length witness.old) entries
         result rows.new refs.new names.new witness.new }
 {
-    let answer = of_second(entries, resolve(rows, refs, entries as usize, witness));
-    match answer {
-        Answer::Accepted(n) => Answer::Accepted(n),
-        Answer::Refused(number, place, detail) => {
-            clear_words(rows);
-            clear_words(refs);
-            clear_bytes(names);
-            Answer::Refused(number, place, detail)
+    match resolve(rows, refs, entries as usize, witness) {
+        Ok(()) => Ok(entries),
+        Err(error) => {
+            rows.fill(0);
+            refs.fill(0);
+            names.fill(0);
+            Err(Refusal::from(error))
         }
     }
 }
@@ -42,12 +41,11 @@ pub fn read_table(
         (lent_by rows.old refs.old names.old witness.old)
         result rows.new refs.new names.new witness.new }
 {
-    let answer = of_first(records::read::read(words, rows, refs, names, witness.len()));
-    match answer {
-        Answer::Accepted(entries) => second(rows, refs, names, witness, entries),
-        Answer::Refused(number, place, detail) => {
-            clear_words(witness);
-            Answer::Refused(number, place, detail)
+    match records::read::read(words, rows, refs, names, witness.len()) {
+        Ok(entries) => second(rows, refs, names, witness, entries),
+        Err(error) => {
+            witness.fill(0);
+            Err(Refusal::from(error))
         }
     }
 }

@@ -7,17 +7,9 @@ use std::io::{self, Input, Write};
 // One word more than a stream may have, so that a longer input shows.
 const SPACE: usize = 65_544;
 
-fn write_line<W: Write>(writer: &mut W, line: &[u8], len: usize) -> io::Result<()> {
-    if len <= line.len() {
-        writer.write_all(&line[..len])?;
-    }
-    Ok(())
-}
-
 fn main(rt: HostRuntime) -> io::Result<()> {
     let mut input = [0u8; SPACE];
     let got = read_full(&mut rt.reader(), &mut input)?;
     let line = ferry::program::run(&input[..got]);
-    let bytes = line.bytes;
-    write_line(&mut io::writer(&rt), &bytes, line.len)
+    io::writer(&rt).write_all(line.as_bytes())
 }

@@ -3,11 +3,9 @@ pub mod Heads
 pub mod Held
 pub mod Kinds
 pub mod Lists
-pub mod Moves
 pub mod Padded
 pub mod Puts
 pub mod Reading
 pub mod Rows
-pub mod Search
 pub mod Shifts
 pub mod Start

@@ -6,16 +6,15 @@
 --     starts_of l          where the parts of the words start
 --     RowsIn, RowPut      rows of any kind within a buffer, and a new one put among them
 -- Assumes nothing.
-use Rattle.std.specs.Prelude.{◌≡◌, Bool, List, ◌∷◌, ◌++◌, ℕ, ◌+◌, ◌*◌, ◌≤◌, ◌<◌, length}
+use Rattle.std.specs.Prelude.{◌≡◌, Bool, Result, Ok, Err, List, ◌∷◌, ◌++◌, ℕ, ◌+◌, ◌*◌, ◌≤◌, ◌<◌, length}
 use Rattle.table.specs.Buffers.{padded}
 use Rattle.layout.specs.declared.record.DataLayout.{DataLayout}
 use Rattle.layout.specs.declared.record.Memory.{Memory}
 use Rattle.layout.specs.declared.record.Memory.TheVariants.{Program, GlobalVariable, Alloca}
 use Rattle.layout.specs.Rows.{placed}
+use Rattle.fields.specs.declared.numbers.Fault.{Fault}
 use Rattle.fields.specs.declared.numbers.Fault.TheVariants.{ListFull}
 use Rattle.datalayout.specs.declared.apply.Applied.{Applied}
-use Rattle.datalayout.specs.declared.apply.Outcome.{Outcome}
-use Rattle.datalayout.specs.declared.apply.Outcome.TheVariants.{Done, Refused}
 use Rattle.datalayout.specs.Promises.{Sound}
 use Rattle.flat.specs.declared.lists.Bounds.{Bounds}
 use Rattle.flat.specs.Words.{numbers_words, types_words, run_of, layout_words}
@@ -31,9 +30,9 @@ pub record Kept (out : List ℕ) : Type 0 where
   pub sound : Sound layout
   pub held : Held layout out
 
-pub record Did (applied : Applied) (r : Outcome) (out : List ℕ) : Type 0 where
+pub record Did (applied : Applied) (r : Result (Unit {0}) Fault) (out : List ℕ) : Type 0 where
   pub outcome_is : r ≡ applied.outcome
-  pub done : r ≡ Done → Held applied.layout out
+  pub done : r ≡ Ok tt → Held applied.layout out
 
 abbrev pub memory_at : Memory → ℕ
 memory_at Program = 2
@@ -67,11 +66,11 @@ pub record RowsIn (out : List ℕ) (from behind end wide most : ℕ) : Type 0 wh
   pub are : Rows x rows y out from behind end wide most
 
 -- "31 exactly if one more is needed"
-pub record PutAmong (x : List ℕ) (rows : List (List ℕ)) (y before : List ℕ) (most : ℕ) (r : Outcome) (after : List ℕ) : Type 0 where
-  pub taken : length rows ≤ most → (r ≡ Done) × (after ≡ padded (length before) (among x rows y))
-  pub full : most < length rows → r ≡ Refused ListFull
+pub record PutAmong (x : List ℕ) (rows : List (List ℕ)) (y before : List ℕ) (most : ℕ) (r : Result (Unit {0}) Fault) (after : List ℕ) : Type 0 where
+  pub taken : length rows ≤ most → (r ≡ Ok tt) × (after ≡ padded (length before) (among x rows y))
+  pub full : most < length rows → r ≡ Err ListFull
 
-abbrev pub RowPut : List ℕ → ℕ → ℕ → ℕ → List ℕ → Bool → ℕ → Outcome → List ℕ → Type 0
+abbrev pub RowPut : List ℕ → ℕ → ℕ → ℕ → List ℕ → Bool → ℕ → Result (Unit {0}) Fault → List ℕ → Type 0
 RowPut before from behind end row both most r after =
     (x : List ℕ) (rows : List (List ℕ)) (y : List ℕ) → Rows x rows y before from behind end (length row) most
     → PutAmong x (placed (same_key both) row rows) y before most r after

@@ -1,15 +1,11 @@
 -- Stretches of words in a lent buffer behind which all is 0. No public contract cites this.
---     moved from n to l                           the n words from `from` on, copied to where `to` is
 --     Shifts from end to before after             the words from `from` to `end` start at `to`, and zeros stand behind them
 --     Replaces src at behind end before after     the words from `at` to `behind` gave way to src; those up to `end` stand behind it
---     Whole wide words, EachWide wide rows        the words are whole rows; every row has so many words
+--     EachWide wide rows                           every row has so many words
 --     same_key both new row                        the same first word, and the same second one where both count
 -- Assumes nothing.
-use Rattle.std.specs.Prelude.{◌≡◌, Bool, ◌&&◌, cond, List, [], ◌∷◌, ◌++◌, ℕ, ◌+◌, ◌*◌, eqb, length, get_or, take, drop}
+use Rattle.std.specs.Prelude.{◌≡◌, Bool, ◌&&◌, cond, List, [], ◌∷◌, ◌++◌, ℕ, eqb, length, get_or, take}
 use Rattle.table.specs.Buffers.{padded}
-
-unfoldable pub moved : ℕ → ℕ → ℕ → List ℕ → List ℕ
-moved from n to l = take to l ++ (take n (drop from l) ++ drop (to + n) l)
 
 abbrev pub Shifts : ℕ → ℕ → ℕ → List ℕ → List ℕ → Type 0
 Shifts from end to before after =
@@ -24,10 +20,6 @@ Replaces src at behind end before after =
 abbrev pub EachWide : ℕ → List (List ℕ) → Type 0
 EachWide wide [] = Unit {0}
 EachWide wide (row ∷ rows) = (length row ≡ wide) × EachWide wide rows
-
-pub record Whole (wide : ℕ) (words : List ℕ) : Type 0 where
-  pub count : ℕ
-  pub long : length words ≡ count * wide
 
 abbrev pub same_key : Bool → List ℕ → List ℕ → Bool
 same_key both new row =

@@ -3,18 +3,15 @@
 -- how many they are is written before them.
 --     layout_words layout     the words: 461 at most
 -- Assumes nothing.
-use Rattle.std.specs.Prelude.{List, [], ◌∷◌, ◌++◌, ℕ, length, take}
+use Rattle.std.specs.Prelude.{Option, Some, None, List, [], ◌∷◌, ◌++◌, ℕ, length, take}
 use Rattle.units.specs.declared.align.Align.{Align}
 use Rattle.units.specs.Align.{size_of, bits_in_byte}
 use Rattle.layout.specs.declared.record.Endian.{Endian}
 use Rattle.layout.specs.declared.record.Endian.TheVariants.{Big, Little}
-use Rattle.layout.specs.declared.record.MaybeAlign.{MaybeAlign}
-use Rattle.layout.specs.declared.record.MaybeAlign.TheVariants.{Unspecified, Of}
 use Rattle.layout.specs.declared.record.FunctionPointerAlign.{FunctionPointerAlign}
-use Rattle.layout.specs.declared.record.FunctionPointerAlign.TheVariants.{Unspecified as AnyFunction, Independent}
-use Rattle.layout.specs.declared.record.FunctionPointerAlign.TheVariants.{MultipleOfFunctionAlign}
+use Rattle.layout.specs.declared.record.FunctionPointerAlign.TheVariants.{Independent, MultipleOfFunctionAlign}
 use Rattle.layout.specs.declared.record.Mangling.{Mangling}
-use Rattle.layout.specs.declared.record.Mangling.TheVariants.{Unspecified as AnyMangling, Elf, Mips, Macho}
+use Rattle.layout.specs.declared.record.Mangling.TheVariants.{Elf, Mips, Macho}
 use Rattle.layout.specs.declared.record.Mangling.TheVariants.{WindowsX86Coff, WindowsCoff, XCoff}
 use Rattle.layout.specs.declared.numbers.Numbers.{Numbers}
 use Rattle.layout.specs.declared.types.TypeAlignSpec.{TypeAlignSpec}
@@ -33,31 +30,31 @@ endian_word Big = 0
 endian_word Little = 1
 
 -- "stack alignment in bits or 0 for none"
-abbrev pub stack_word : MaybeAlign → ℕ
-stack_word Unspecified = 0
-stack_word (Of align) = bits_of align
+abbrev pub stack_word : Option Align → ℕ
+stack_word None = 0
+stack_word (Some align) = bits_of align
 
 -- "function pointer alignment kind (0 none, 1 independent, 2 multiple)"
-abbrev pub function_kind : FunctionPointerAlign → ℕ
-function_kind AnyFunction = 0
-function_kind (Independent align) = 1
-function_kind (MultipleOfFunctionAlign align) = 2
+abbrev pub function_kind : Option FunctionPointerAlign → ℕ
+function_kind None = 0
+function_kind (Some (Independent align)) = 1
+function_kind (Some (MultipleOfFunctionAlign align)) = 2
 
 -- "and its bits or 0"
-abbrev pub function_bits : FunctionPointerAlign → ℕ
-function_bits AnyFunction = 0
-function_bits (Independent align) = bits_of align
-function_bits (MultipleOfFunctionAlign align) = bits_of align
+abbrev pub function_bits : Option FunctionPointerAlign → ℕ
+function_bits None = 0
+function_bits (Some (Independent align)) = bits_of align
+function_bits (Some (MultipleOfFunctionAlign align)) = bits_of align
 
 -- "mangling (0 none, else 1 to 6 for `e m o x w a`)"
-abbrev pub mangling_word : Mangling → ℕ
-mangling_word AnyMangling = 0
-mangling_word Elf = 1
-mangling_word Mips = 2
-mangling_word Macho = 3
-mangling_word WindowsX86Coff = 4
-mangling_word WindowsCoff = 5
-mangling_word XCoff = 6
+abbrev pub mangling_word : Option Mangling → ℕ
+mangling_word None = 0
+mangling_word (Some Elf) = 1
+mangling_word (Some Mips) = 2
+mangling_word (Some Macho) = 3
+mangling_word (Some WindowsX86Coff) = 4
+mangling_word (Some WindowsCoff) = 5
+mangling_word (Some XCoff) = 6
 
 -- the words of each row, one row behind the other
 unfoldable pub run_of : {A : Type 0} → (A → List ℕ) → List A → List ℕ

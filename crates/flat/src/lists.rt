@@ -6,16 +6,14 @@ ghost use Rattle.datalayout.specs.Apply.{type_applied, pointer_applied};
 ghost use Rattle.datalayout.specs.Promises.{Sound};
 ghost use Rattle.flat.specs.Held.{Held, Kept, Did, RowsIn, RowPut, starts_of};
 
-use crate::moves::{place, replace};
-use crate::parts::{POINTER_WORDS, TYPE_WORDS, pointer_words, type_words};
+use crate::moves::{find, replace};
+use crate::parts::{POINTER_WORDS, TYPE_WORDS, Words};
 use crate::put::put_numbers;
-use datalayout::apply::Outcome;
 use fields::numbers::Fault;
 use layout::numbers::{MAX_NUMBERS, Numbers};
 use layout::pointers::{MAX_POINTER_ROWS, PointerAlignSpec};
 use layout::record::Listed;
 use layout::types::{MAX_TYPE_ROWS, TypeAlignSpec};
-use table::buffer::least;
 
 // Where the counts of the lists behind the widths stand, and where all ends.
 #[derive(Drop)]
@@ -33,11 +31,8 @@ const WIDTHS: usize = 9;
 fn count_at(out: &[u64], at: usize, most: usize) -> usize
     ensures { result ≡ min (get_or out.now at 0) most }
 {
-    if at < out.len() {
-        let count = out[at] as usize;
-        return least(count, most);
-    }
-    0
+    let count = out.get(at).copied().unwrap_or(0);
+    count.min(most as u64) as usize
 }
 
 pub(crate) fn starts(out: &[u64]) -> Bounds
@@ -57,48 +52,49 @@ pub(crate) fn starts(out: &[u64]) -> Bounds
 
 // "A new row replaces the one with the same kind and width (or space) in its place, else is appended." The count of the rows stands
 // at `from`, they end at `behind`, and the words at `end`.
-fn put_row(
+fn put_row<const WIDE: usize>(
     out: &mut [u64],
     from: usize,
     behind: usize,
     end: usize,
-    row: &[u64],
+    row: &[u64; WIDE],
     both: bool,
     most: usize,
-) -> Outcome
+) -> Result<(), Fault>
     requires rows { RowsIn out.old from behind end (length row.now) most }
-    requires wide { 2 ≤ length row.now }
+    requires wide { 2 ≤ WIDE }
     ensures { RowPut out.old from behind end row.now both most result out.new }
 {
     let start = from + 1;
-    let at = start + place(&out[start..behind], row.len(), row[0], row[1], both);
-    if at < behind {
-        replace(out, at, at + row.len(), end, row);
-        return Outcome::Done;
+    if let Some(i) = find(&out[start..behind], row, both) {
+        let at = start + i * WIDE;
+        replace(out, at, at + WIDE, end, row);
+        return Ok(());
     }
-    let count = out[from];
-    if most as u64 <= count {
-        return Outcome::Refused(Fault::ListFull);
+    if most as u64 <= out[from] {
+        return Err(Fault::ListFull);
     }
-    out[from] = count + 1;
+    out[from] += 1;
     replace(out, behind, behind, end, row);
-    Outcome::Done
+    Ok(())
 }
 
-pub(crate) fn put_type(out: &mut [u64], row: TypeAlignSpec) -> Outcome
+// Kept: `Kept out.old` is one word in four contracts; a struct round the lent words would be opened in each of the four.
+pub(crate) fn put_type(out: &mut [u64], row: TypeAlignSpec) -> Result<(), Fault>
     requires { Kept out.old }
     ensures { (l : DataLayout) → Sound l → Held l out.old → Did (type_applied l row) result out.new }
 {
-    let words = type_words(row);
+    let words = row.words();
     let s = starts(out);
     put_row(out, s.types, s.pointers, s.end, &words, true, MAX_TYPE_ROWS)
 }
 
-pub(crate) fn put_pointer(out: &mut [u64], row: PointerAlignSpec) -> Outcome
+// Kept: this and `put_type` are each one call of `put_row` with the numbers of their own list.
+pub(crate) fn put_pointer(out: &mut [u64], row: PointerAlignSpec) -> Result<(), Fault>
     requires { Kept out.old }
     ensures { (l : DataLayout) → Sound l → Held l out.old → Did (pointer_applied l row) result out.new }
 {
-    let words = pointer_words(row);
+    let words = row.words();
     let s = starts(out);
     put_row(
         out,
@@ -111,6 +107,7 @@ pub(crate) fn put_pointer(out: &mut [u64], row: PointerAlignSpec) -> Outcome
     )
 }
 
+// Kept: a buffer with a count, since `put_numbers` writes into any buffer and says how much.
 pub(crate) fn put_list(out: &mut [u64], listed: Listed, numbers: Numbers)
     requires { Kept out.old }
     ensures { (l : DataLayout) → Sound l → Held l out.old → Held (with_numbers l listed numbers) out.new }

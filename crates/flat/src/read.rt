@@ -13,68 +13,61 @@ use crate::defaults::{refuse, start};
 use crate::lists::{put_list, put_pointer, put_type, starts};
 use crate::parts::{endian_word, function_bits, function_kind, mangling_word};
 use crate::put::LAYOUT_WORDS;
-use datalayout::answer::Answer;
-use datalayout::apply::Outcome;
-use datalayout::map::ascii_part_end;
+use datalayout::error::Error;
+use datalayout::map::{ascii_end, ascii_part_end};
+use fields::numbers::Fault;
 use layout::record::Memory;
-use spec::spec::{Read, Spec, read_spec};
+use spec::spec::{Spec, read_spec};
 use table::buffer::put_words;
 
 // The answer, and how many words the layout has.
 #[derive(Drop)]
 pub struct Laid {
-    pub answer: Answer,
+    pub answer: Result<(), Error>,
     pub words: usize,
 }
-
-const ASCII_END: u8 = 128;
 
 fn memory_at(memory: Memory) -> usize
     ensures { result ≡ memory_at memory }
 {
-    match memory {
-        Memory::Program => 2,
-        Memory::GlobalVariable => 3,
-        Memory::Alloca => 4,
-    }
+    memory as usize + 2
 }
 
-fn apply(out: &mut [u64], read: Read) -> Outcome
+// Kept: this and `read_whole` go the way of `datalayout`'s over words, as the record by value misses the bar of speed (docs/DECISIONS.md).
+fn apply(out: &mut [u64], read: Result<Spec, Fault>) -> Result<(), Fault>
     requires { Kept out.old }
     ensures { (l : DataLayout) → Sound l → Held l out.old → Did (applied l read) result out.new }
 {
-    let said = read.spec;
-    let numbers = read.numbers;
-    match said {
-        Spec::Endianness(endian) => {
+    match read {
+        Ok(Spec::Endianness(endian)) => {
             out[0] = endian_word(endian);
-            Outcome::Done
+            Ok(())
         }
-        Spec::Stack(align) => {
+        Ok(Spec::Stack(align)) => {
             out[1] = align.bit_align();
-            Outcome::Done
+            Ok(())
         }
-        Spec::Space(memory, space) => {
+        Ok(Spec::Space(memory, space)) => {
             let at = memory_at(memory);
             out[at] = space;
-            Outcome::Done
+            Ok(())
         }
-        Spec::Typed(row) => put_type(out, row),
-        Spec::Pointer(row) => put_pointer(out, row),
-        Spec::FunctionPointer(align) => {
-            out[6] = function_kind(align);
-            out[7] = function_bits(align);
-            Outcome::Done
+        Ok(Spec::Typed(row)) => put_type(out, row),
+        Ok(Spec::Pointer(row)) => put_pointer(out, row),
+        Ok(Spec::FunctionPointer(align)) => {
+            out[6] = function_kind(Some(align));
+            out[7] = function_bits(Some(align));
+            Ok(())
         }
-        Spec::Mangled(mangling) => {
-            out[8] = mangling_word(mangling);
-            Outcome::Done
+        Ok(Spec::Mangled(mangling)) => {
+            out[8] = mangling_word(Some(mangling));
+            Ok(())
         }
-        Spec::Numbered(listed) => {
+        Ok(Spec::Numbered(listed, numbers)) => {
             put_list(out, listed, numbers);
-            Outcome::Done
+            Ok(())
         }
-        Spec::Refused(fault) => Outcome::Refused(fault),
+        Err(fault) => Err(fault),
     }
 }
 
@@ -85,25 +78,26 @@ fn read_whole(value: &[u8], out: &mut [u64]) -> Laid
 {
     start(out);
     let mut at = 0;
+    // Kept: an iterator over the specs is no plainer, since a refusal names a spec's offset and 21 is looked for in the same sweep.
     loop {
         let end = ascii_part_end(value, at, b'-');
-        if end < value.len() && ASCII_END <= value[end] {
-            return refuse(out, Answer::BadEncoding(end));
+        // Past the end there is no byte, and 0 is ASCII.
+        let byte = value.get(end).copied().unwrap_or(0);
+        if !byte.is_ascii() {
+            return refuse(out, Error::BadEncoding(end));
         }
-        let read = read_spec(&value[at..end]);
-        if let Outcome::Refused(fault) = apply(out, read) {
+        if let Err(fault) = apply(out, read_spec(&value[at..end])) {
             // "21 first": the spec's refusal is kept back until the rest of the string is seen to be ASCII.
-            let bad = ascii_part_end(value, end, ASCII_END);
+            let bad = ascii_end(value, end);
             if bad < value.len() {
-                return refuse(out, Answer::BadEncoding(bad));
+                return refuse(out, Error::BadEncoding(bad));
             }
-            return refuse(out, Answer::Refused(fault, at));
+            return refuse(out, Error::Refused(fault, at));
         }
         if end == value.len() {
-            let s = starts(out);
             return Laid {
-                answer: Answer::Taken,
-                words: s.end,
+                answer: Ok(()),
+                words: starts(out).end,
             };
         }
         at = end + 1;

@@ -12,6 +12,7 @@ pub fn read_full<R: Read>(reader: &mut R, buf: &mut [u8]) -> io::Result<usize>
     ensures bytes { IfOk result (λ n. Consumes (R.remaining reader.old) (R.remaining reader.new) (take n buf.new)) }
     ensures ended { IfOk result (λ n. n < length buf.new → IsAtEnd (R.remaining reader.new)) }
 {
+    // Kept: std's `read_exact` says of an input that ends early neither how many bytes came nor which.
     let mut done = 0;
     while done < buf.len() {
         let n = reader.read(&mut buf[done..])?;

@@ -1,3 +1,4 @@
 pub mod Kinds
+pub mod TypeIds
 pub mod Codes
 pub mod Places

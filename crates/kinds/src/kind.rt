@@ -1,42 +1,74 @@
 // "Kinds follow `TypeId`" (01, "Type stream and table"), in its order; `OpaquePointer` is added behind it.
-pub const HALF: u64 = 0;
+ghost use Rattle.std.specs.Prelude.{◌≡◌};
+ghost use Rattle.kinds.specs.TypeIds.{number, Says};
 
-pub const BFLOAT: u64 = 1;
+#[derive(Clone, Copy, Debug, PartialEq, Eq)]
+pub enum TypeId {
+    Half,
+    BFloat,
+    Float,
+    Double,
+    X86Fp80,
+    Fp128,
+    PpcFp128,
+    Void,
+    Label,
+    Metadata,
+    X86Mmx,
+    X86Amx,
+    Token,
+    Integer,
+    Function,
+    Pointer,
+    Struct,
+    Array,
+    FixedVector,
+    ScalableVector,
+    OpaquePointer,
+}
 
-pub const FLOAT: u64 = 2;
+// A number that no kind has.
+#[derive(Clone, Copy, Debug, PartialEq, Eq)]
+pub struct UnknownKind(pub u64);
 
-pub const DOUBLE: u64 = 3;
+impl TryFrom<u64> for TypeId {
+    type Error = UnknownKind;
 
-pub const X86_FP80: u64 = 4;
+    ghost try_from_gives = { Says };
 
-pub const FP128: u64 = 5;
+    fn try_from(kind: u64) -> Result<Self, UnknownKind> {
+        match kind {
+            0 => Ok(TypeId::Half),
+            1 => Ok(TypeId::BFloat),
+            2 => Ok(TypeId::Float),
+            3 => Ok(TypeId::Double),
+            4 => Ok(TypeId::X86Fp80),
+            5 => Ok(TypeId::Fp128),
+            6 => Ok(TypeId::PpcFp128),
+            7 => Ok(TypeId::Void),
+            8 => Ok(TypeId::Label),
+            9 => Ok(TypeId::Metadata),
+            10 => Ok(TypeId::X86Mmx),
+            11 => Ok(TypeId::X86Amx),
+            12 => Ok(TypeId::Token),
+            13 => Ok(TypeId::Integer),
+            14 => Ok(TypeId::Function),
+            15 => Ok(TypeId::Pointer),
+            16 => Ok(TypeId::Struct),
+            17 => Ok(TypeId::Array),
+            18 => Ok(TypeId::FixedVector),
+            19 => Ok(TypeId::ScalableVector),
+            20 => Ok(TypeId::OpaquePointer),
+            _ => Err(UnknownKind(kind)),
+        }
+    }
+}
 
-pub const PPC_FP128: u64 = 6;
+// A kind as the first word of a row.
+impl From<TypeId> for u64 {
+    ghost from_gives = { λ kind n. n ≡ number kind };
 
-pub const VOID: u64 = 7;
-
-pub const LABEL: u64 = 8;
-
-pub const METADATA: u64 = 9;
-
-pub const X86_MMX: u64 = 10;
-
-pub const X86_AMX: u64 = 11;
-
-pub const TOKEN: u64 = 12;
-
-pub const INTEGER: u64 = 13;
-
-pub const FUNCTION: u64 = 14;
-
-pub const POINTER: u64 = 15;
-
-pub const STRUCT: u64 = 16;
-
-pub const ARRAY: u64 = 17;
-
-pub const FIXED_VECTOR: u64 = 18;
-
-pub const SCALABLE_VECTOR: u64 = 19;
-
-pub const OPAQUE_POINTER: u64 = 20;
+    fn from(kind: TypeId) -> u64 {
+        kind as u64
+    }
+}

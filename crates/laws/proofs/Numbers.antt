@@ -1,6 +1,7 @@
 -- Laws of specs/Numbers.antt, in the shape in which a `match` on a number with ranges hands over its facts.
 --     Apart ns n            n is none of ns: a fact for each, which `omega` proves and reads
 --     within-..             a test of a range, by where n stands
+--     Apart, Rest, listed-of-.. are named in docs/PROVING.md and TRACE.md; kinds/proofs and spec/proofs stand on them
 --     listed-of-..          a test of a list: by n being none of it, one of a `match` arm's keys, or in a run of it
 -- Assumes nothing.
 use mathlib.Core.Path.{◌≡◌, refl}

@@ -3,7 +3,7 @@
 -- 8 bits, as in the Rust." What it does not list is unspecified, 0 or empty (LangRef).
 --     default_layout     the layout before any spec, and with every refusal
 -- Assumes nothing.
-use Rattle.std.specs.Prelude.{◌∷◌, ℕ, ◌-◌, replicate}
+use Rattle.std.specs.Prelude.{◌∷◌, ℕ, ◌-◌, None, replicate}
 use Rattle.units.specs.declared.align.Align.{Align}
 use Rattle.layout.specs.declared.types.AlignedType.{AlignedType}
 use Rattle.layout.specs.declared.types.AlignedType.TheVariants.{Integer, Vector, Float, Aggregate}
@@ -13,9 +13,6 @@ use Rattle.layout.specs.declared.pointers.PointerAlignSpec.{PointerAlignSpec}
 use Rattle.layout.specs.declared.pointers.PointerAlignSpecs.{PointerAlignSpecs}
 use Rattle.layout.specs.declared.record.DataLayout.{DataLayout}
 use Rattle.layout.specs.declared.record.Endian.TheVariants.{Big}
-use Rattle.layout.specs.declared.record.MaybeAlign.TheVariants.{Unspecified}
-use Rattle.layout.specs.declared.record.FunctionPointerAlign.TheVariants.{Unspecified as AnyFunction}
-use Rattle.layout.specs.declared.record.Mangling.TheVariants.{Unspecified as AnyMangling}
 use Rattle.layout.specs.Numbers.{no_numbers}
 use Rattle.layout.specs.Pointers.{max_pointer_rows}
 use Rattle.layout.specs.Types.{max_type_rows}
@@ -79,15 +76,15 @@ abbrev pub default_layout : DataLayout
 default_layout =
     record {
       endianness = Big;
-      natural_stack_alignment = Unspecified;
+      natural_stack_alignment = None;
       program_address_space = 0;
       global_variable_address_space = 0;
       alloca_address_space = 0;
       type_alignments = default_types;
       pointer_alignments = default_pointers;
       aggregate_alignment = align8;
-      function_pointer_alignment = AnyFunction;
-      mangling = AnyMangling;
+      function_pointer_alignment = None;
+      mangling = None;
       native_integer_widths = no_numbers;
       non_integral_address_spaces = no_numbers;
     }

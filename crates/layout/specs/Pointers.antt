@@ -1,11 +1,10 @@
 -- Document 01, "Layout string": the pointer rows.
 --     same_space new row             the same space
---     updated_pointers specs new     the rows with a new one, or that they are full
+--     updated_pointers specs new     the rows with a new one, and none where they are full
 -- Assumes nothing.
-use Rattle.std.specs.Prelude.{Bool, true, false, cond, ℕ, eqb}
+use Rattle.std.specs.Prelude.{Bool, cond, ℕ, Option, Some, None, eqb}
 use Rattle.layout.specs.declared.pointers.PointerAlignSpec.{PointerAlignSpec}
 use Rattle.layout.specs.declared.pointers.PointerAlignSpecs.{PointerAlignSpecs}
-use Rattle.layout.specs.declared.pointers.UpdatedPointers.{UpdatedPointers}
 use Rattle.layout.specs.Rows.{rows_after, count_after, fits}
 
 abbrev pub same_space : PointerAlignSpec → PointerAlignSpec → Bool
@@ -15,15 +14,11 @@ same_space new row = eqb new.address_space row.address_space
 abbrev pub max_pointer_rows : ℕ
 max_pointer_rows = 32
 
-unfoldable pub updated_pointers : PointerAlignSpecs → PointerAlignSpec → UpdatedPointers
+unfoldable pub updated_pointers : PointerAlignSpecs → PointerAlignSpec → Option PointerAlignSpecs
 updated_pointers specs new =
     cond (fits same_space new specs.count specs.rows max_pointer_rows)
-    (record {
-      full = false;
-      specs =
-          record {
-            rows = rows_after same_space new specs.count specs.rows;
-            count = count_after same_space new specs.count specs.rows;
-          };
-    })
-    (record { full = true; specs = specs })
+    (Some (record {
+      rows = rows_after same_space new specs.count specs.rows;
+      count = count_after same_space new specs.count specs.rows;
+    }))
+    None

@@ -2,13 +2,12 @@
 --     with_endianness layout new, ..     the layout with that field new, and every other as it was. In each the fields stand in the
 --                                       record's order, a letter for each, and `_` is the one that `new` takes the place of
 -- Assumes nothing.
-use Rattle.std.specs.Prelude.{ℕ}
+use Rattle.std.specs.Prelude.{ℕ, Option}
 use Rattle.units.specs.declared.align.Align.{Align}
 use Rattle.layout.specs.declared.numbers.Numbers.{Numbers}
 use Rattle.layout.specs.declared.types.TypeAlignSpecs.{TypeAlignSpecs}
 use Rattle.layout.specs.declared.pointers.PointerAlignSpecs.{PointerAlignSpecs}
 use Rattle.layout.specs.declared.record.Endian.{Endian}
-use Rattle.layout.specs.declared.record.MaybeAlign.{MaybeAlign}
 use Rattle.layout.specs.declared.record.FunctionPointerAlign.{FunctionPointerAlign}
 use Rattle.layout.specs.declared.record.Mangling.{Mangling}
 use Rattle.layout.specs.declared.record.Memory.{Memory}
@@ -18,8 +17,8 @@ use Rattle.layout.specs.declared.record.Listed.TheVariants.{NativeIntegerWidths,
 use Rattle.layout.specs.declared.record.DataLayout.{DataLayout}
 
 -- a layout from its fields, and its fields in the same order
-abbrev made : Endian → MaybeAlign → ℕ → ℕ → ℕ → TypeAlignSpecs → PointerAlignSpecs → Align
-    → FunctionPointerAlign → Mangling → Numbers → Numbers → DataLayout
+abbrev made : Endian → Option Align → ℕ → ℕ → ℕ → TypeAlignSpecs → PointerAlignSpecs → Align
+    → Option FunctionPointerAlign → Option Mangling → Numbers → Numbers → DataLayout
 made endian stack program global alloca types pointers aggregate function mangling widths spaces =
     record {
       endianness = endian;
@@ -37,8 +36,8 @@ made endian stack program global alloca types pointers aggregate function mangli
     }
 
 abbrev apart : DataLayout
-    → (Endian → MaybeAlign → ℕ → ℕ → ℕ → TypeAlignSpecs → PointerAlignSpecs → Align
-    → FunctionPointerAlign → Mangling → Numbers → Numbers → DataLayout)
+    → (Endian → Option Align → ℕ → ℕ → ℕ → TypeAlignSpecs → PointerAlignSpecs → Align
+    → Option FunctionPointerAlign → Option Mangling → Numbers → Numbers → DataLayout)
     → DataLayout
 apart l f =
     f l.endianness l.natural_stack_alignment
@@ -50,7 +49,7 @@ apart l f =
 abbrev pub with_endianness : DataLayout → Endian → DataLayout
 with_endianness l new = apart l (λ _ s p g a t q d f m n i. made new s p g a t q d f m n i)
 
-abbrev pub with_stack : DataLayout → MaybeAlign → DataLayout
+abbrev pub with_stack : DataLayout → Option Align → DataLayout
 with_stack l new = apart l (λ e _ p g a t q d f m n i. made e new p g a t q d f m n i)
 
 abbrev pub with_space : DataLayout → Memory → ℕ → DataLayout
@@ -64,10 +63,10 @@ with_types l new = apart l (λ e s p g a _ q d f m n i. made e s p g a new q d f
 abbrev pub with_pointers : DataLayout → PointerAlignSpecs → DataLayout
 with_pointers l new = apart l (λ e s p g a t _ d f m n i. made e s p g a t new d f m n i)
 
-abbrev pub with_function_pointer : DataLayout → FunctionPointerAlign → DataLayout
+abbrev pub with_function_pointer : DataLayout → Option FunctionPointerAlign → DataLayout
 with_function_pointer l new = apart l (λ e s p g a t q d _ m n i. made e s p g a t q d new m n i)
 
-abbrev pub with_mangling : DataLayout → Mangling → DataLayout
+abbrev pub with_mangling : DataLayout → Option Mangling → DataLayout
 with_mangling l new = apart l (λ e s p g a t q d f _ n i. made e s p g a t q d f new n i)
 
 abbrev pub with_numbers : DataLayout → Listed → Numbers → DataLayout

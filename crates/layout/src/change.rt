@@ -5,143 +5,52 @@ ghost use Rattle.layout.specs.Record.{with_pointers, with_function_pointer, with
 
 use crate::numbers::Numbers;
 use crate::pointers::PointerAlignSpecs;
-use crate::record::{
-    DataLayout, Endian, FunctionPointerAlign, Listed, Mangling, MaybeAlign, Memory,
-};
+use crate::record::{DataLayout, Endian, FunctionPointerAlign, Listed, Mangling, Memory};
 use crate::types::TypeAlignSpecs;
+use units::align::Align;
 
-// A literal where the Rust stores: a field that is an enum is not stored to.
+// Kept: 01's form has a method for each spec; one with the field as a parameter is no plainer.
 impl DataLayout {
-    pub fn with_endianness(self, endianness: Endian) -> DataLayout
+    pub fn with_endianness(mut self, endianness: Endian) -> DataLayout
         ensures { result ≡ with_endianness self endianness }
     {
-        let natural_stack_alignment = self.natural_stack_alignment;
-        let type_alignments = self.type_alignments;
-        let pointer_alignments = self.pointer_alignments;
-        let aggregate_alignment = self.aggregate_alignment;
-        let function_pointer_alignment = self.function_pointer_alignment;
-        let mangling = self.mangling;
-        let native_integer_widths = self.native_integer_widths;
-        let non_integral_address_spaces = self.non_integral_address_spaces;
-        DataLayout {
-            endianness,
-            natural_stack_alignment,
-            program_address_space: self.program_address_space,
-            global_variable_address_space: self.global_variable_address_space,
-            alloca_address_space: self.alloca_address_space,
-            type_alignments,
-            pointer_alignments,
-            aggregate_alignment,
-            function_pointer_alignment,
-            mangling,
-            native_integer_widths,
-            non_integral_address_spaces,
-        }
+        self.endianness = endianness;
+        self
     }
 
-    pub fn with_stack(self, natural_stack_alignment: MaybeAlign) -> DataLayout
+    pub fn with_stack(mut self, natural_stack_alignment: Option<Align>) -> DataLayout
         ensures { result ≡ with_stack self natural_stack_alignment }
     {
-        let endianness = self.endianness;
-        let type_alignments = self.type_alignments;
-        let pointer_alignments = self.pointer_alignments;
-        let aggregate_alignment = self.aggregate_alignment;
-        let function_pointer_alignment = self.function_pointer_alignment;
-        let mangling = self.mangling;
-        let native_integer_widths = self.native_integer_widths;
-        let non_integral_address_spaces = self.non_integral_address_spaces;
-        DataLayout {
-            endianness,
-            natural_stack_alignment,
-            program_address_space: self.program_address_space,
-            global_variable_address_space: self.global_variable_address_space,
-            alloca_address_space: self.alloca_address_space,
-            type_alignments,
-            pointer_alignments,
-            aggregate_alignment,
-            function_pointer_alignment,
-            mangling,
-            native_integer_widths,
-            non_integral_address_spaces,
-        }
+        self.natural_stack_alignment = natural_stack_alignment;
+        self
     }
 
     pub fn with_function_pointer(
-        self,
-        function_pointer_alignment: FunctionPointerAlign,
+        mut self,
+        function_pointer_alignment: Option<FunctionPointerAlign>,
     ) -> DataLayout
         ensures { result ≡ with_function_pointer self function_pointer_alignment }
     {
-        let endianness = self.endianness;
-        let natural_stack_alignment = self.natural_stack_alignment;
-        let type_alignments = self.type_alignments;
-        let pointer_alignments = self.pointer_alignments;
-        let aggregate_alignment = self.aggregate_alignment;
-        let mangling = self.mangling;
-        let native_integer_widths = self.native_integer_widths;
-        let non_integral_address_spaces = self.non_integral_address_spaces;
-        DataLayout {
-            endianness,
-            natural_stack_alignment,
-            program_address_space: self.program_address_space,
-            global_variable_address_space: self.global_variable_address_space,
-            alloca_address_space: self.alloca_address_space,
-            type_alignments,
-            pointer_alignments,
-            aggregate_alignment,
-            function_pointer_alignment,
-            mangling,
-            native_integer_widths,
-            non_integral_address_spaces,
-        }
+        self.function_pointer_alignment = function_pointer_alignment;
+        self
     }
 
-    pub fn with_mangling(self, mangling: Mangling) -> DataLayout
+    pub fn with_mangling(mut self, mangling: Option<Mangling>) -> DataLayout
         ensures { result ≡ with_mangling self mangling }
     {
-        let endianness = self.endianness;
-        let natural_stack_alignment = self.natural_stack_alignment;
-        let type_alignments = self.type_alignments;
-        let pointer_alignments = self.pointer_alignments;
-        let aggregate_alignment = self.aggregate_alignment;
-        let function_pointer_alignment = self.function_pointer_alignment;
-        let native_integer_widths = self.native_integer_widths;
-        let non_integral_address_spaces = self.non_integral_address_spaces;
-        DataLayout {
-            endianness,
-            natural_stack_alignment,
-            program_address_space: self.program_address_space,
-            global_variable_address_space: self.global_variable_address_space,
-            alloca_address_space: self.alloca_address_space,
-            type_alignments,
-            pointer_alignments,
-            aggregate_alignment,
-            function_pointer_alignment,
-            mangling,
-            native_integer_widths,
-            non_integral_address_spaces,
-        }
+        self.mangling = mangling;
+        self
     }
-}
 
-impl DataLayout {
     pub fn with_space(mut self, memory: Memory, space: u64) -> DataLayout
         ensures { result ≡ with_space self memory space }
     {
         match memory {
-            Memory::Program => {
-                self.program_address_space = space;
-                self
-            }
-            Memory::GlobalVariable => {
-                self.global_variable_address_space = space;
-                self
-            }
-            Memory::Alloca => {
-                self.alloca_address_space = space;
-                self
-            }
+            Memory::Program => self.program_address_space = space,
+            Memory::GlobalVariable => self.global_variable_address_space = space,
+            Memory::Alloca => self.alloca_address_space = space,
         }
+        self
     }
 
     pub fn with_types(mut self, types: TypeAlignSpecs) -> DataLayout
@@ -162,14 +71,9 @@ impl DataLayout {
         ensures { result ≡ with_numbers self listed numbers }
     {
         match listed {
-            Listed::NativeIntegerWidths => {
-                self.native_integer_widths = numbers;
-                self
-            }
-            Listed::NonIntegralAddressSpaces => {
-                self.non_integral_address_spaces = numbers;
-                self
-            }
+            Listed::NativeIntegerWidths => self.native_integer_widths = numbers,
+            Listed::NonIntegralAddressSpaces => self.non_integral_address_spaces = numbers,
         }
+        self
     }
 }

@@ -4,7 +4,7 @@ ghost use Rattle.layout.specs.Defaults.{type_row, pointer_row, default_types, de
 
 use crate::numbers::Numbers;
 use crate::pointers::{MAX_POINTER_ROWS, PointerAlignSpec, PointerAlignSpecs};
-use crate::record::{DataLayout, Endian, FunctionPointerAlign, Mangling, MaybeAlign};
+use crate::record::{DataLayout, Endian};
 use crate::types::{AlignedType, MAX_TYPE_ROWS, TypeAlignSpec, TypeAlignSpecs};
 use units::align::Align;
 
@@ -80,15 +80,15 @@ pub fn default_layout() -> DataLayout
     let spaces = Numbers::none();
     DataLayout {
         endianness: Endian::Big,
-        natural_stack_alignment: MaybeAlign::Unspecified,
+        natural_stack_alignment: None,
         program_address_space: 0,
         global_variable_address_space: 0,
         alloca_address_space: 0,
         type_alignments: types,
         pointer_alignments: pointers,
         aggregate_alignment: Align(ALIGN8),
-        function_pointer_alignment: FunctionPointerAlign::Unspecified,
-        mangling: Mangling::Unspecified,
+        function_pointer_alignment: None,
+        mangling: None,
         native_integer_widths: widths,
         non_integral_address_spaces: spaces,
     }

@@ -6,4 +6,5 @@ pub mod defaults;
 pub mod numbers;
 pub mod pointers;
 pub mod record;
+mod rows;
 pub mod types;

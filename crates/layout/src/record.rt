@@ -4,28 +4,20 @@ use crate::pointers::PointerAlignSpecs;
 use crate::types::TypeAlignSpecs;
 use units::align::Align;
 
-#[derive(Drop)]
+#[derive(Clone, Copy, Debug, PartialEq, Eq)]
 pub enum Endian {
     Big,
     Little,
 }
 
-#[derive(Drop)]
-pub enum MaybeAlign {
-    Unspecified,
-    Of(Align),
-}
-
-#[derive(Clone, Copy)]
+#[derive(Clone, Copy, PartialEq, Eq)]
 pub enum FunctionPointerAlign {
-    Unspecified,
     Independent(Align),
     MultipleOfFunctionAlign(Align),
 }
 
-#[derive(Drop)]
+#[derive(Clone, Copy, Debug, PartialEq, Eq)]
 pub enum Mangling {
-    Unspecified,
     Elf,
     Mips,
     Macho,
@@ -35,32 +27,32 @@ pub enum Mangling {
 }
 
 // Which of the three address spaces, and which of the two lists, a spec is about.
-#[derive(Drop)]
+#[derive(Clone, Copy, Debug, PartialEq, Eq)]
 pub enum Memory {
     Program,
     GlobalVariable,
     Alloca,
 }
 
-#[derive(Clone, Copy)]
+#[derive(Clone, Copy, Debug, PartialEq, Eq)]
 pub enum Listed {
     NativeIntegerWidths,
     NonIntegralAddressSpaces,
 }
 
-// The Rust's fields. What is an `Option` there has a case `Unspecified`, and spaces and widths are u64.
+// The Rust's fields; spaces and widths are u64.
 #[derive(Drop)]
 pub struct DataLayout {
     pub endianness: Endian,
-    pub natural_stack_alignment: MaybeAlign,
+    pub natural_stack_alignment: Option<Align>,
     pub program_address_space: u64,
     pub global_variable_address_space: u64,
     pub alloca_address_space: u64,
     pub type_alignments: TypeAlignSpecs,
     pub pointer_alignments: PointerAlignSpecs,
     pub aggregate_alignment: Align,
-    pub function_pointer_alignment: FunctionPointerAlign,
-    pub mangling: Mangling,
+    pub function_pointer_alignment: Option<FunctionPointerAlign>,
+    pub mangling: Option<Mangling>,
     pub native_integer_widths: Numbers,
     pub non_integral_address_spaces: Numbers,
 }

@@ -2,23 +2,24 @@
 // function is a call of the proved one below it and promises what that promises; nothing is asked of a caller that
 // C's types do not say. crates/reckonferry_c exports each under its name. include/reckonferry.h is made from this
 // file by tools/header: the comment over an item is its comment there.
+// Kept: reckonferry_name_start and _len are two functions, as C has them.
 #![tactic(auto)]
 
-ghost use Rattle.std.specs.Prelude.{◌≡◌, ◌∷◌, [], length};
+ghost use Rattle.std.specs.Prelude.{◌≡◌, length};
 ghost use Rattle.table.specs.Buffers.{over};
 ghost use Rattle.ferry.specs.Reader.{lent_by};
 ghost use Rattle.checker.specs.Checked.{checked};
 ghost use Rattle.lookup.specs.Names.{stretch_of, has_name, start_of, length_of};
-ghost use Rattle.reckonferry.specs.Library.{answer_words, ReadsTable, ReadsLayout};
+ghost use Rattle.reckonferry.specs.Library.{answer_words, layout_answer, ReadsTable, ReadsLayout};
 
 use checker::check::check;
+use datalayout::error::Error;
 use ferry::Answer;
 use ferry::read::read_table;
 use flat::read::read_layout;
-use lookup::has_name;
+use lookup::{has_name, stretch_of};
 use table::TypeRef;
 use table::buffer::put_words;
-use table::row::row_at;
 
 // Words of a row: kind; number; flag; first reference place; reference count; name start; name length; 1 if named.
 pub const ROW_WORDS: usize = table::row::ROW_WORDS;
@@ -32,19 +33,21 @@ pub const ANSWER_WORDS: usize = 3;
 // No layout has more words.
 pub const LAYOUT_WORDS: usize = flat::put::LAYOUT_WORDS;
 
-fn put_three(out: &mut [u64], first: u64, second: u64, third: u64)
-    ensures { out.new ≡ over (first ∷ second ∷ third ∷ []) out.old }
-{
-    put_words(out, &[first, second, third]);
-}
-
 fn put_answer(out: &mut [u64], a: Answer)
     ensures { out.new ≡ over (answer_words a) out.old }
 {
-    match a {
-        Answer::Accepted(entries) => put_three(out, 0, entries, 0),
-        Answer::Refused(number, place, detail) => put_three(out, number, place, detail),
-    }
+    let words = match a {
+        Ok(entries) => [0, entries, 0],
+        Err(refusal) => [refusal.number, refusal.place, refusal.detail],
+    };
+    put_words(out, &words);
+}
+
+fn layout_answer(said: Result<(), Error>) -> Answer
+    ensures { result ≡ layout_answer said }
+{
+    said?;
+    Ok(0)
 }
 
 // Reads a type table from the words of a stream.
@@ -103,12 +106,7 @@ pub fn reckonferry_has_name(rows: &[u64], names: &[u8], entry: u64) -> bool
 pub fn reckonferry_name_start(rows: &[u64], names: &[u8], entry: u64) -> usize
     ensures { result ≡ start_of (stretch_of rows.now (length names.now) entry) }
 {
-    let asked = TypeRef(entry);
-    if has_name(rows, names, asked) {
-        let row = row_at(rows, entry as usize);
-        return row.start as usize;
-    }
-    0
+    stretch_of(rows, names.len(), TypeRef(entry)).map_or(0, |stretch| stretch.start)
 }
 
 // How many bytes the name of `entry` has, or 0 where it has none. They lie in `names` from reckonferry_name_start
@@ -116,12 +114,7 @@ pub fn reckonferry_name_start(rows: &[u64], names: &[u8], entry: u64) -> usize
 pub fn reckonferry_name_len(rows: &[u64], names: &[u8], entry: u64) -> usize
     ensures { result ≡ length_of (stretch_of rows.now (length names.now) entry) }
 {
-    let asked = TypeRef(entry);
-    if has_name(rows, names, asked) {
-        let row = row_at(rows, entry as usize);
-        return row.len as usize;
-    }
-    0
+    stretch_of(rows, names.len(), TypeRef(entry)).map_or(0, |stretch| stretch.len())
 }
 
 // Reads a data layout string, of which no 0 byte at the end is part.
@@ -143,13 +136,6 @@ pub fn reckonferry_read_layout(value: &[u8], answer: &mut [u64], layout: &mut [u
         result answer.new layout.new }
 {
     let laid = read_layout(value, layout);
-    let said = laid.answer;
-    let refusal = said.refusal();
-    put_three(
-        answer,
-        refusal.number,
-        refusal.place as u64,
-        refusal.detail as u64,
-    );
+    put_answer(answer, layout_answer(laid.answer));
     laid.words
 }

@@ -1,8 +1,9 @@
 // The exports of the library to link: each is a call of the function of that name in `reckonferry` and promises what
 // that promises. What each answers is said there.
+// Kept: the C interface needs each function here too, as a static library exports those of its own crate alone.
 #![tactic(auto)]
 
-ghost use Rattle.std.specs.Prelude.{◌≡◌, ◌∷◌, [], length};
+ghost use Rattle.std.specs.Prelude.{◌≡◌, length};
 ghost use Rattle.table.specs.Buffers.{over};
 ghost use Rattle.ferry.specs.Reader.{lent_by};
 ghost use Rattle.checker.specs.Checked.{checked};

@@ -1,17 +1,18 @@
 -- Document 01, "Refusal numbers": number, place and detail of each answer of the first pass.
 -- Assumes nothing.
-use Rattle.std.specs.Prelude.{ℕ}
+use Rattle.std.specs.Prelude.{ℕ, Result, Ok, Err}
+use Rattle.units.specs.declared.refusal.Refusal.{Refusal}
 use Rattle.shapes.specs.Answers.{number_of, detail_of}
-use Rattle.records.specs.declared.Answer.{Answer}
-use Rattle.records.specs.declared.Answer.TheVariants.{Accepted, CutRecord, NoSingleCount, BadRecord, CountDiffers}
+use Rattle.records.specs.declared.Error.{Error}
+use Rattle.records.specs.declared.Error.TheVariants.{CutRecord, NoSingleCount, BadRecord, CountDiffers}
 
-pub data Verdict : Type 0 where
-  accepted : (entries : ℕ) → Verdict
-  refusal : (number place detail : ℕ) → Verdict
+-- "| No. | Meaning | place, detail |"
+abbrev pub refusal : (number place detail : ℕ) → Refusal
+refusal number place detail = record { number = number; place = place; detail = detail }
 
-abbrev pub verdict_of : Answer → Verdict
-verdict_of (Accepted entries) = accepted entries
-verdict_of (CutRecord head) = refusal 1 head 0
-verdict_of NoSingleCount = refusal 2 0 0
-verdict_of (BadRecord number fault) = refusal (number_of fault) number (detail_of fault)
-verdict_of (CountDiffers stated got) = refusal 10 stated got
+abbrev pub verdict_of : Result ℕ Error → Result ℕ Refusal
+verdict_of (Ok entries) = Ok entries
+verdict_of (Err (CutRecord head)) = Err (refusal 1 head 0)
+verdict_of (Err NoSingleCount) = Err (refusal 2 0 0)
+verdict_of (Err (BadRecord number fault)) = Err (refusal (number_of fault) number (detail_of fault))
+verdict_of (Err (CountDiffers stated got)) = Err (refusal 10 stated got)

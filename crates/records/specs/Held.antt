@@ -3,26 +3,18 @@
 --     After, Passed, Left      an answer and the outputs show an outcome; at a refusal nothing is said of the outputs
 --     Ready                    the counts that a step needs to be in range
 -- Assumes nothing.
-use Rattle.std.specs.Prelude.{◌≡◌, List, ◌++◌, ℕ, ◌+◌, ◌*◌, ◌≤◌, ◌<◌, ◌^◌, length}
+use Rattle.std.specs.Prelude.{◌≡◌, List, ◌++◌, ℕ, ◌+◌, ◌*◌, ◌≤◌, ◌<◌, ◌^◌, length, Some, None, Result, Ok, Err}
 use Rattle.table.specs.Buffers.{over}
 use Rattle.table.specs.Rows.{row_words, rows_of, refs_of, names_of}
-use Rattle.stream.specs.declared.Frame.{Frame}
-use Rattle.stream.specs.declared.Frame.TheVariants.{Whole, CutAt}
-use Rattle.stream.specs.declared.Stated.{Stated}
-use Rattle.stream.specs.declared.Stated.TheVariants.{Nothing, Count, Faulty}
+use Rattle.stream.specs.declared.Cut.{Cut}
+use Rattle.stream.specs.Count.{Stated}
+use Rattle.shapes.specs.declared.Fault.{Fault}
 use Rattle.records.specs.declared.Filled.{Filled}
-use Rattle.records.specs.declared.Step.{Step}
-use Rattle.records.specs.declared.Step.TheVariants.{Go, Stop}
-use Rattle.records.specs.declared.Ended.{Ended}
-use Rattle.records.specs.declared.Ended.TheVariants.{AtEnd, AtRecord}
-use Rattle.records.specs.declared.Opening.{Opening}
-use Rattle.records.specs.declared.Opening.TheVariants.{Fine, Bad}
-use Rattle.records.specs.declared.Answer.{Answer}
-use Rattle.records.specs.declared.Answer.TheVariants.{Accepted, CutRecord, NoSingleCount}
-use Rattle.records.specs.declared.Kept.{Kept}
+use Rattle.records.specs.declared.Error.{Error}
+use Rattle.records.specs.declared.Error.TheVariants.{CutRecord, NoSingleCount, BadRecord}
 use Rattle.records.specs.Table.{Table, Room}
 use Rattle.records.specs.Records.{Outcome, go, stop, Ran, whole, bad}
-use Rattle.records.specs.Read.{Result, taken, refused}
+use Rattle.table.specs.Entries.{Entry}
 use Rattle.records.specs.Values.{filled_of}
 
 pub record Buffers : Type 0 where
@@ -44,36 +36,29 @@ pub record Holds (b : Buffers) (t : Table) (rows refs names : List ℕ) : Type 0
   pub refs_fit : length (refs_of t.entries) ≤ length b.refs
   pub names_fit : length (names_of t.entries) ≤ length b.names
 
-abbrev pub After : Buffers → Outcome → Step → List ℕ → List ℕ → List ℕ → Type 0
-After b (go t) s rows refs names = (s ≡ Go (filled_of t)) × Holds b t rows refs names
-After b (stop fault) s rows refs names = s ≡ Stop fault
+abbrev pub After : Buffers → Outcome → Result Filled Fault → List ℕ → List ℕ → List ℕ → Type 0
+After b (go t) r rows refs names = (r ≡ Ok (filled_of t)) × Holds b t rows refs names
+After b (stop fault) r rows refs names = r ≡ Err fault
 
-abbrev pub Passed : Buffers → Ran → Ended → List ℕ → List ℕ → List ℕ → Type 0
-Passed b (whole t) e rows refs names = (e ≡ AtEnd (filled_of t)) × Holds b t rows refs names
-Passed b (bad number fault) e rows refs names = e ≡ AtRecord number fault
+abbrev pub Passed : Buffers → Ran → Result Filled Error → List ℕ → List ℕ → List ℕ → Type 0
+Passed b (whole t) r rows refs names = (r ≡ Ok (filled_of t)) × Holds b t rows refs names
+Passed b (bad number fault) r rows refs names = r ≡ Err (BadRecord number fault)
 
 -- framing and NumEntry, which are judged before any record
-abbrev pub opening_of : Frame → Stated → Opening
-opening_of (CutAt head) stated = Bad (CutRecord head)
-opening_of Whole Nothing = Bad NoSingleCount
-opening_of Whole Faulty = Bad NoSingleCount
-opening_of Whole (Count n) = Fine n
+abbrev pub opening_of : Result (Unit {0}) Cut → Stated → Result ℕ Error
+opening_of (Err cut) stated = Err (CutRecord cut.head)
+opening_of (Ok ok) (Ok None) = Err NoSingleCount
+opening_of (Ok ok) (Ok (Some n)) = Ok n
+opening_of (Ok ok) (Err faulty) = Err NoSingleCount
 
--- the answer, and how much of each output is kept
+-- what is kept, and the table that the outputs hold
+abbrev pub Left : Buffers → Result (List Entry) Error → Result Filled Error → List ℕ → List ℕ → List ℕ → Type 0
+Left b (Ok es) r rows refs names = (t : Table) × (t.entries ≡ es) × (r ≡ Ok (filled_of t)) × Holds b t rows refs names
+Left b (Err e) r rows refs names = r ≡ Err e
 
-abbrev pub keep_none : Answer → Kept
-keep_none a = record { answer = a; rows = 0; refs = 0; names = 0 }
-
-abbrev pub keep_all : Filled → Kept
-keep_all f = record { answer = Accepted f.entries; rows = f.entries * row_words; refs = f.refs; names = f.taken }
-
-abbrev pub Left : Buffers → Result → Kept → List ℕ → List ℕ → List ℕ → Type 0
-Left b (taken es) k rows refs names = (t : Table) × (t.entries ≡ es) × (k ≡ keep_all (filled_of t)) × Holds b t rows refs names
-Left b (refused a) k rows refs names = k ≡ keep_none a
-
-abbrev pub mark_of : Step → ℕ
-mark_of (Go f) = f.mark
-mark_of (Stop fault) = 0
+abbrev pub mark_of : Result Filled Fault → ℕ
+mark_of (Ok f) = f.mark
+mark_of (Err fault) = 0
 
 pub record Ready (entries : ℕ) (f : Filled) (rows refs fields : ℕ) : Type 0 where
   pub rows_hold : entries * row_words ≤ rows

@@ -1,10 +1,10 @@
 -- Document 01, "Refusal numbers": "records in order (within one: missing field, then its other faults by number, then 9)".
---     deed_on t fs s        what a record with the fields fs that says s does to the table t
+--     deed_on t fs s        what a record with the fields fs that says s does to the table t; deed_if  the same where it may be refused
 --     after room t d       the table after the deed d, or its fault
 --     step_of room t c fs   the same for a record with the code c and the fields fs
 --     run room n t s       the records of s in order, the first of them number n
 -- Assumes nothing.
-use Rattle.std.specs.Prelude.{cond, List, [], ◌∷◌, ◌++◌, ℕ, ◌+◌, ltb, length}
+use Rattle.std.specs.Prelude.{cond, List, [], ◌∷◌, ◌++◌, ℕ, ◌+◌, ltb, length, Result, Ok, Err}
 use Rattle.table.specs.Entries.{Name, unnamed, called}
 use Rattle.stream.specs.Stream.{Stream, done, cut, rec}
 use Rattle.shapes.specs.declared.Fault.{Fault}
@@ -21,7 +21,10 @@ deed_on t fs says.Name = pends fs
 deed_on t fs (says.Adds h from) = puts t.entries (entry_of (form_of t.pending fs h from))
 deed_on t fs (says.Opaque h from) = opaque_on t.entries (form_of t.pending fs h from)
 deed_on t fs (says.Named h from) = named_on t.entries (form_of t.pending fs h from)
-deed_on t fs (says.Refused fault) = refuses fault
+
+abbrev pub deed_if : Table → List ℕ → Result Shape Fault → Deed
+deed_if t fs (Ok shape) = deed_on t fs shape
+deed_if t fs (Err fault) = refuses fault
 
 pub data Outcome : Type 0 where
   go : Table → Outcome
@@ -43,7 +46,7 @@ after room t (puts front e) =
 after room t (refuses fault) = stop fault
 
 abbrev pub step_of : Room → Table → ℕ → List ℕ → Outcome
-step_of room t code fs = after room t (deed_on t fs (shape_in code fs (ltb 0 (length t.pending))))
+step_of room t code fs = after room t (deed_if t fs (shape_in code fs (ltb 0 (length t.pending))))
 
 pub data Ran : Type 0 where
   whole : Table → Ran

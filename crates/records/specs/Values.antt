@@ -4,11 +4,12 @@
 --     deed_by s f               what a record that says s does where the marks are f
 --     has_room, row_for, grown   of an entry p that is put where the marks are f: room, row, the marks afterwards
 -- Assumes nothing.
-use Rattle.std.specs.Prelude.{Bool, cond, ◌&&◌, ◌||◌, ℕ, ◌+◌, ◌-◌, eqb, leb, ltb, length}
+use Rattle.std.specs.Prelude.{Bool, cond, ◌&&◌, ◌||◌, ℕ, ◌+◌, ◌-◌, eqb, leb, ltb, length, Result, Ok, Err}
 use Rattle.kinds.specs.Kinds.{struct}
 use Rattle.table.specs.declared.row.Row.{Row}
 use Rattle.table.specs.Entries.{Form}
 use Rattle.table.specs.Rows.{place_of, refs_of, names_of}
+use Rattle.shapes.specs.declared.Fault.{Fault}
 use Rattle.shapes.specs.declared.Fault.TheVariants.{AlreadyFilled}
 use Rattle.shapes.specs.declared.Head.{Head}
 use Rattle.shapes.specs.declared.Shape.{Shape}
@@ -47,25 +48,24 @@ in_last h count kept from more f = record {
   more = more;
 }
 
-abbrev pub opaque_by : Head → ℕ → Filled → Deed
+abbrev pub opaque_by : Head → ℕ → Filled → Result Deed Fault
 opaque_by h from f =
     cond (eqb f.last.kind struct)
-    (cond f.last.named (deed.Refuse AlreadyFilled) (deed.Put (in_last h f.last.count f.last.count 0 0 f)))
-    (deed.Put (behind h from f))
+    (cond f.last.named (Err AlreadyFilled) (Ok (deed.Put (in_last h f.last.count f.last.count 0 0 f))))
+    (Ok (deed.Put (behind h from f)))
 
-abbrev pub named_by : Head → ℕ → Filled → Deed
+abbrev pub named_by : Head → ℕ → Filled → Result Deed Fault
 named_by h from f =
     cond (eqb f.last.kind struct)
-    (cond (f.last.named || ltb 0 f.last.count) (deed.Refuse AlreadyFilled) (deed.Put (in_last h h.count 0 from h.count f)))
-    (deed.Put (behind h from f))
+    (cond (f.last.named || ltb 0 f.last.count) (Err AlreadyFilled) (Ok (deed.Put (in_last h h.count 0 from h.count f))))
+    (Ok (deed.Put (behind h from f)))
 
-abbrev pub deed_by : Shape → Filled → Deed
-deed_by says.Nothing f = deed.Pass
-deed_by says.Name f = deed.Pend
-deed_by (says.Adds h from) f = deed.Put (behind h from f)
+abbrev pub deed_by : Shape → Filled → Result Deed Fault
+deed_by says.Nothing f = Ok deed.Pass
+deed_by says.Name f = Ok deed.Pend
+deed_by (says.Adds h from) f = Ok (deed.Put (behind h from f))
 deed_by (says.Opaque h from) f = opaque_by h from f
 deed_by (says.Named h from) f = named_by h from f
-deed_by (says.Refused fault) f = deed.Refuse fault
 
 -- where the names end once the entry has its own
 abbrev pub end_of : Put → Filled → ℕ

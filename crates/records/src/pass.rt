@@ -1,5 +1,5 @@
 // The records in order: what each says by value, then at most one writer.
-ghost use Rattle.std.specs.Prelude.{◌≡◌, ◌+◌, ◌*◌, ◌≤◌, ◌<◌, ◌^◌, length};
+ghost use Rattle.std.specs.Prelude.{◌≡◌, ◌+◌, ◌*◌, ◌≤◌, length};
 ghost use Rattle.table.specs.Rows.{row_words};
 ghost use Rattle.stream.specs.Stream.{stream};
 ghost use Rattle.records.specs.Table.{Table, empty};
@@ -9,49 +9,39 @@ ghost use Rattle.records.specs.Held.{Buffers, buffers_of, room_in, Holds, After,
 
 use crate::fill::deed_on;
 use crate::write::{put, stage};
-use crate::{Deed, Ended, Filled, Step};
-use shapes::Head;
+use crate::{Deed, Error, Filled};
+use shapes::Fault;
 use shapes::record::shape_in;
-use stream::{Found, record_at};
+use stream::{Record, Records};
 
-fn staged(f: Filled, n: usize) -> Filled
-    requires { f.mark + n < 2 ^ 64 }
-    ensures { result ≡ record { entries = f.entries; refs = f.refs; taken = f.taken; mark = f.mark + n; last = f.last } }
-{
-    let last = f.last;
-    Filled {
-        entries: f.entries,
-        refs: f.refs,
-        taken: f.taken,
-        mark: f.mark + n,
-        last: last,
-    }
-}
-
+// Kept: three outputs as three parameters, here and in each caller above; of one that lends them in a struct the goal
+// `returns-clause-rows` does not close.
 fn take_record(
-    code: u64,
-    fields: &[u64],
+    r: Record<'_>,
     rows: &mut [u64],
     refs: &mut [u64],
     names: &mut [u8],
     f: Filled,
     entries: usize,
-) -> Step
-    requires { Ready entries f (length rows.old) (length refs.old) (length fields.now) }
+) -> Result<Filled, Fault>
+    requires { Ready entries f (length rows.old) (length refs.old) (length r.fields.now) }
     ensures after { (b : Buffers) (t : Table)
         → Holds b t rows.old refs.old names.old → f ≡ filled_of t
-        → After b (step_of (room_in entries b) t code fields.now) result rows.new refs.new names.new }
-    ensures mark { mark_of result ≤ f.mark + length fields.now }
+        → After b (step_of (room_in entries b) t r.entry.code r.entry.fields.now) result rows.new refs.new names.new }
+    ensures mark { mark_of result ≤ f.mark + length r.entry.fields.now }
 {
-    match deed_on(shape_in(code, fields, f.taken < f.mark), f) {
-        Deed::Pass => Step::Go(f),
+    let Record { code, fields } = r;
+    let shape = shape_in(code, fields, f.taken < f.mark)?;
+    match deed_on(shape, f)? {
+        Deed::Pass => Ok(f),
         Deed::Pend => {
-            let mark = f.mark;
-            stage(names, fields, mark);
-            Step::Go(staged(f, fields.len()))
+            stage(names, fields, f.mark);
+            Ok(Filled {
+                mark: f.mark + fields.len(),
+                ..f
+            })
         }
         Deed::Put(p) => put(fields, rows, refs, names.len(), p, f, entries),
-        Deed::Refuse(fault) => Step::Stop(fault),
     }
 }
 
@@ -61,48 +51,22 @@ pub(crate) fn read_records(
     refs: &mut [u64],
     names: &mut [u8],
     entries: usize,
-) -> Ended
+) -> Result<Filled, Error>
     requires { entries * row_words ≤ length rows.old }
     ensures { Passed (buffers_of rows.old refs.old names.old)
         (run (room_in entries (buffers_of rows.old refs.old names.old)) 0 empty
         (stream words.now))
         result rows.new refs.new names.new }
 {
-    let mut at = 0;
-    let mut number = 0;
-    let mut f = Filled {
-        entries: 0,
-        refs: 0,
-        taken: 0,
-        mark: 0,
-        last: Head {
-            kind: 0,
-            number: 0,
-            flag: 0,
-            count: 0,
-            named: false,
-        },
-    };
-    loop {
-        match record_at(words, at) {
-            Found::End => {
-                return Ended::AtEnd(f);
-            }
-            Found::Cut => {
-                return Ended::AtEnd(f);
-            }
-            Found::Record(code, start, end) => {
-                match take_record(code, &words[start..end], rows, refs, names, f, entries) {
-                    Step::Go(next) => {
-                        f = next;
-                    }
-                    Step::Stop(fault) => {
-                        return Ended::AtRecord(number, fault);
-                    }
-                }
-                number += 1;
-                at = end;
-            }
-        }
+    let mut f = Filled::default();
+    for (number, record) in Records::new(words).enumerate() {
+        let Ok(record) = record else {
+            break;
+        };
+        f = take_record(record, rows, refs, names, f, entries).map_err(|fault| Error::BadRecord(
+            number as u64,
+            fault,
+        ))?;
     }
+    Ok(f)
 }

@@ -1,50 +1,30 @@
 // The writers: a row, its references, and a pending name, each over the unused rest of its output from the fill mark on.
-ghost use Rattle.std.specs.Prelude.{◌≡◌, cond, List, ◌++◌, ℕ, ◌+◌, ◌≤◌, ◌<◌, ◌^◌, length};
+ghost use Rattle.std.specs.Prelude.{◌≡◌, List, ◌++◌, ℕ, ◌+◌, ◌≤◌, ◌<◌, ◌^◌, length};
 ghost use Rattle.table.specs.Buffers.{over, low_bytes};
 ghost use Rattle.table.specs.Entries.{Entry};
-ghost use Rattle.table.specs.Rows.{place_of};
 ghost use Rattle.records.specs.Table.{Table, puts};
 ghost use Rattle.records.specs.Records.{after};
 ghost use Rattle.records.specs.Values.{filled_of, end_of, has_room, row_for, grown};
 ghost use Rattle.records.specs.Held.{Buffers, room_in, Holds, After, mark_of, Ready};
 ghost use Rattle.records.specs.Putting.{Puts, Fits};
 
-use crate::{Filled, Put, Step};
+use crate::{Filled, Put};
 use shapes::Fault;
 use table::buffer::{put_bytes, put_words};
+use table::row;
 use table::row::{ROW_WORDS, Row, put_row};
-
-// "a place is 0 where its count is 0, a name start 0 where its length is 0"
-fn place_of(count: usize, place: usize) -> u64
-    ensures { result ≡ place_of count place }
-{
-    if count == 0 { 0 } else { place as u64 }
-}
-
-fn named_word(named: bool) -> u64
-    ensures { result ≡ cond named 1 0 }
-{
-    if named { 1 } else { 0 }
-}
 
 fn end_of(p: Put, f: Filled) -> usize
     ensures { result ≡ end_of p f }
 {
-    let head = p.head;
-    if head.named { f.mark } else { f.taken }
+    if p.head.named { f.mark } else { f.taken }
 }
 
 fn has_room(p: Put, f: Filled, entries: usize, refs: usize, names: usize) -> bool
     requires { f.refs ≤ refs }
     ensures { result ≡ has_room p f entries refs names }
 {
-    if entries <= p.row {
-        return false;
-    }
-    if refs - f.refs < p.more {
-        return false;
-    }
-    end_of(p, f) <= names
+    p.row < entries && p.more <= refs - f.refs && end_of(p, f) <= names
 }
 
 fn row_of(p: Put, f: Filled) -> Row
@@ -52,16 +32,16 @@ fn row_of(p: Put, f: Filled) -> Row
     ensures { result ≡ row_for p f }
 {
     let head = p.head;
-    let len = end_of(p, f) - f.taken;
+    let len = (end_of(p, f) - f.taken) as u64;
     Row {
         kind: head.kind,
         number: head.number,
         flag: head.flag,
-        first: place_of(head.count, f.refs - p.kept),
+        first: row::place_of(head.count as u64, (f.refs - p.kept) as u64),
         count: head.count as u64,
-        start: place_of(len, f.taken),
-        len: len as u64,
-        named: named_word(head.named),
+        start: row::place_of(len, f.taken as u64),
+        len,
+        named: u64::from(head.named),
     }
 }
 
@@ -69,13 +49,12 @@ fn grow(p: Put, f: Filled) -> Filled
     requires { (p.row + 1 < 2 ^ 64) × (f.refs + p.more < 2 ^ 64) }
     ensures { result ≡ grown p f }
 {
-    let head = p.head;
     Filled {
         entries: p.row + 1,
         refs: f.refs + p.more,
         taken: end_of(p, f),
         mark: f.mark,
-        last: head,
+        last: p.head,
     }
 }
 
@@ -98,7 +77,7 @@ pub(crate) fn put(
     p: Put,
     f: Filled,
     entries: usize,
-) -> Step
+) -> Result<Filled, Fault>
     requires { Ready entries f (length rows.old) (length refs.old) (length fields.now) × Fits p f (length fields.now) }
     ensures after { (b : Buffers) (t : Table) (z : List ℕ) (front : List Entry) (e : Entry)
         → Holds b t rows.old refs.old z → f ≡ filled_of t → names ≡ length b.names
@@ -106,15 +85,10 @@ pub(crate) fn put(
         → After b (after (room_in entries b) t (puts front e)) result rows.new refs.new z }
     ensures mark { mark_of result ≤ f.mark }
 {
-    if has_room(p, f, entries, refs.len(), names) {
-        let next = grow(p, f);
-        let row = p.row * ROW_WORDS;
-        let at = f.refs;
-        let from = p.from;
-        let end = p.from + p.more;
-        put_row(&mut rows[row..], row_of(p, f));
-        put_words(&mut refs[at..], &fields[from..end]);
-        return Step::Go(next);
+    if !has_room(p, f, entries, refs.len(), names) {
+        return Err(Fault::NoRoom);
     }
-    Step::Stop(Fault::NoRoom)
+    put_row(&mut rows[p.row * ROW_WORDS..], row_of(p, f));
+    put_words(&mut refs[f.refs..], &fields[p.from..p.from + p.more]);
+    Ok(grow(p, f))
 }

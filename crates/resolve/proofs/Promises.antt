@@ -8,6 +8,7 @@ use mathlib.Core.List.{List, [], ◌∷◌, ◌++◌}
 use Prim.Native.Nat.{ℕ, zero, suc, ◌-◌, ◌≤◌}
 use native.Mathlib.Omega.{arith}
 use lib.ListN.{length, get_or, length-append}
+use Rattle.std.specs.Prelude.{Result}
 use Rattle.table.specs.Buffers.{zeros, padded}
 use Rattle.table.specs.Back.{entries_from}
 use Rattle.table.proofs.Laws.Buffers.{padded-none}
@@ -19,7 +20,7 @@ use Rattle.ranks.proofs.Paths.{each-of-mem}
 use Rattle.ranks.proofs.Heights.{height-same}
 use Rattle.ranks.proofs.Promises.{resolve-deserved}
 use Rattle.rules.specs.Lawful.{table_of}
-use Rattle.walk.specs.declared.Resolution.{Resolution}
+use Rattle.walk.specs.declared.Error.{Error}
 use Rattle.walk.specs.Answers.{Paper, accepted, refused, cycle, paper_of, paper_in}
 use Rattle.walk.specs.Resolve.{witness_by, witness_in, Resolves}
 use Rattle.resolve.specs.Formed.{table_formed}
@@ -126,7 +127,7 @@ module _ (rows refs names : List ℕ) (n room : ℕ) (verdict : Paper) (w : List
   outcome-demand-3 says is = by_answer (resolve (table_of rows refs n)).marks (resolve (table_of rows refs n)).answer
       (resolve-deserved (table_of rows refs n)) says is
 
-pub demand-3 : (rows refs names : List ℕ) (n room : ℕ) (r : Resolution) (w : List ℕ) → table_formed rows refs names n ≡ true
+pub demand-3 : (rows refs names : List ℕ) (n room : ℕ) (r : Result Unit Error) (w : List ℕ) → table_formed rows refs names n ≡ true
     → Resolves rows refs n room r w → Demand3 rows refs names n room (paper_of r) w
 demand-3 rows refs names n room r w formed h = outcome-demand-3 rows refs names n room (paper_of r) w formed h.answer h.content
 

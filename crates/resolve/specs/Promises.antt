@@ -6,13 +6,13 @@
 --     Determined             no second answer fits
 --     Flat                   the checker says yes exactly of the flat form of one list of entries, lawful with the ranks
 -- Assumes nothing.
-use Rattle.std.specs.Prelude.{◌≡◌, ◌↔◌, true, List, ℕ, ◌≤◌, ◌<◌, length, get_or}
+use Rattle.std.specs.Prelude.{◌≡◌, ◌↔◌, true, List, ℕ, ◌≤◌, ◌<◌, length, get_or, Result}
 use Rattle.table.specs.Buffers.{zeros, padded}
 use Rattle.table.specs.Entries.{Entry}
 use Rattle.ranks.specs.Table.{Passes, IsRing, height}
 use Rattle.ranks.specs.Promises.{Blamed}
 use Rattle.rules.specs.Lawful.{table_of}
-use Rattle.walk.specs.declared.Resolution.{Resolution}
+use Rattle.walk.specs.declared.Error.{Error}
 use Rattle.walk.specs.Answers.{Paper, accepted, refused, cycle}
 use Rattle.walk.specs.Resolve.{Resolves}
 use Rattle.checker.specs.Checked.{checked}
@@ -47,7 +47,7 @@ pub record Demand3 (rows refs names : List ℕ) (n room : ℕ) (verdict : Paper)
 -- 5. the answer and the whole witness are determined
 abbrev pub Determined : List ℕ → List ℕ → ℕ → ℕ → Type 0
 Determined rows refs n room =
-    (r s : Resolution) (w v : List ℕ) → Resolves rows refs n room r w → Resolves rows refs n room s v → (r ≡ s) × (w ≡ v)
+    (r s : Result Unit Error) (w v : List ℕ) → Resolves rows refs n room r w → Resolves rows refs n room s v → (r ≡ s) × (w ≡ v)
 
 -- what the checker's yes means of the rows
 abbrev pub Flat : List ℕ → List ℕ → List ℕ → List ℕ → ℕ → Type 0

@@ -2,4 +2,3 @@ pub mod Letters
 pub mod Typed
 pub mod Pointer
 pub mod Lists
-pub mod Specs

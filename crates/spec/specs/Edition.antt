@@ -6,15 +6,15 @@
 --     pointer_last row        the tests of `p` after its others: "refuses with 27 a pointer spec whose .."
 --     numbers_last ns read    the tests of `n` after its others, before 31: "and a native width of 0"
 -- Assumes nothing.
-use Rattle.std.specs.Prelude.{List, [], ◌∷◌, ℕ}
+use Rattle.std.specs.Prelude.{List, [], ◌∷◌, ℕ, Result, Ok, Err}
 use Rattle.layout.specs.declared.numbers.Numbers.{Numbers}
+use Rattle.layout.specs.declared.pointers.PointerAlignSpec.{PointerAlignSpec}
 use Rattle.layout.specs.declared.record.Mangling.TheVariants.{Elf, Mips, Macho, WindowsX86Coff, WindowsCoff, XCoff}
 use Rattle.layout.specs.declared.types.AlignedType.{AlignedType}
+use Rattle.fields.specs.declared.numbers.Fault.{Fault}
 use Rattle.fields.specs.declared.numbers.Fault.TheVariants.{BadSpecParse}
-use Rattle.spec.specs.declared.pointer.PointerRow.{PointerRow}
-use Rattle.spec.specs.declared.spec.Read.{Read}
 use Rattle.spec.specs.declared.spec.Spec.{Spec}
-use Rattle.spec.specs.declared.spec.Spec.TheVariants.{Mangled, Refused}
+use Rattle.spec.specs.declared.spec.Spec.TheVariants.{Mangled}
 use Rattle.fields.specs.Parts.{dash, parts_of}
 use Rattle.spec.specs.Letters.{chosen}
 
@@ -27,22 +27,22 @@ abbrev pub abi_bits : AlignedType → ℕ → ℕ
 abi_bits kind bits = bits
 
 -- "one of `e m o x w a`, else 27"
-abbrev pub mangling_letter : ℕ → Spec
+abbrev pub mangling_letter : ℕ → Result Spec Fault
 mangling_letter letter =
-    chosen (Refused BadSpecParse)
-    ((101, Mangled Elf)
-    ∷ (109, Mangled Mips)
-    ∷ (111, Mangled Macho)
-    ∷ (120, Mangled WindowsX86Coff)
-    ∷ (119, Mangled WindowsCoff)
-    ∷ (97, Mangled XCoff)
+    chosen (Err BadSpecParse)
+    ((101, Ok (Mangled Elf))
+    ∷ (109, Ok (Mangled Mips))
+    ∷ (111, Ok (Mangled Macho))
+    ∷ (120, Ok (Mangled WindowsX86Coff))
+    ∷ (119, Ok (Mangled WindowsCoff))
+    ∷ (97, Ok (Mangled XCoff))
     ∷ [])
     letter
 
 -- "no other test"
-abbrev pub pointer_last : PointerRow → PointerRow
+abbrev pub pointer_last : Result PointerAlignSpec Fault → Result PointerAlignSpec Fault
 pointer_last row = row
 
 -- no other test
-abbrev pub numbers_last : Numbers → Read → Read
+abbrev pub numbers_last : Numbers → Result Spec Fault → Result Spec Fault
 numbers_last numbers read = read

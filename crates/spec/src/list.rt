@@ -3,25 +3,14 @@ ghost use Rattle.std.specs.Prelude.{◌≡◌};
 ghost use Rattle.layout.specs.Numbers.{no_numbers};
 ghost use Rattle.fields.specs.Parts.{colon, parts_of};
 ghost use Rattle.spec.specs.Lists.{number_in, numbers_from, numbers_in};
-ghost use Rattle.spec.specs.Lists.{refused as refused_read};
 
-use crate::spec::{Read, Spec};
-use fields::numbers::{Fault, Number};
+use crate::spec::Spec;
+use fields::numbers::Fault;
 use fields::{numbers, parts};
 use layout::numbers::{MAX_NUMBERS, Numbers};
 use layout::record::Listed;
 
-pub fn refused(fault: Fault) -> Read
-    ensures { result ≡ refused_read fault }
-{
-    let none = Numbers::none();
-    Read {
-        spec: Spec::Refused(fault),
-        numbers: none,
-    }
-}
-
-fn read_number(listed: Listed, part: &[u8]) -> Number
+fn read_number(listed: Listed, part: &[u8]) -> Result<u64, Fault>
     ensures { result ≡ number_in listed part.now }
 {
     match listed {
@@ -31,46 +20,32 @@ fn read_number(listed: Listed, part: &[u8]) -> Number
 }
 
 // "31 exactly if one more is needed, .. and a seventeenth part gives it unread." 2026-14 tests the widths at both ends.
-fn read_list(listed: Listed, body: &[u8]) -> Read
+#[tactic(auto, unfolding(crate::specs::Lists::numbers_from), using(crate::proofs::Laws::Lists::numbers_from_full))]
+fn read_list(listed: Listed, body: &[u8]) -> Result<Spec, Fault>
     ensures { result ≡ numbers_from listed no_numbers (parts_of colon body.now) }
 {
     let mut numbers = Numbers::none();
-    let mut at = 0;
-    loop {
+    let mut left = Some(body);
+    while let Some(rest) = left {
         if MAX_NUMBERS <= numbers.count {
-            return refused(Fault::ListFull);
+            return Err(Fault::ListFull);
         }
-        let end = parts::part_end(body, at, b':');
-        match read_number(listed, &body[at..end]) {
-            Number::Is(n) => {
-                numbers = numbers.push(n);
-            }
-            Number::Not(fault) => {
-                return refused(fault);
-            }
-        }
-        if end == body.len() {
-            return Read {
-                spec: Spec::Numbered(listed),
-                numbers,
-            };
-        }
-        at = end + 1;
+        let (part, behind) = parts::first_part(rest, b':');
+        let number = read_number(listed, part)?;
+        numbers = numbers.push(number);
+        left = behind;
     }
+    Ok(Spec::Numbered(listed, numbers))
 }
 
 // "`ni`: alone 27; one byte after it is skipped unseen"; "`n`: .. empty 27".
-pub fn read_numbers(body: &[u8]) -> Read
+#[tactic(auto, unfolding(crate::specs::Lists::numbers_in))]
+pub fn read_numbers(body: &[u8]) -> Result<Spec, Fault>
     ensures { result ≡ numbers_in body.now }
 {
-    if body.len() == 0 {
-        return refused(Fault::BadSpecParse);
+    match body {
+        [] | [b'i'] => Err(Fault::BadSpecParse),
+        [b'i', _, spaces @ ..] => read_list(Listed::NonIntegralAddressSpaces, spaces),
+        _ => read_list(Listed::NativeIntegerWidths, body),
     }
-    if body[0] == b'i' {
-        if body.len() == 1 {
-            return refused(Fault::BadSpecParse);
-        }
-        return read_list(Listed::NonIntegralAddressSpaces, &body[2..]);
-    }
-    read_list(Listed::NativeIntegerWidths, body)
 }

@@ -1,105 +1,124 @@
 // A type stream as records: what stands at a place; whether every record is whole, and what the NumEntry records state.
 #![tactic(auto)]
 
-ghost use Rattle.std.specs.Prelude.{◌≡◌, List, ◌++◌, ℕ};
-ghost use Rattle.stream.specs.Stream.{record_at};
+ghost use Rattle.std.specs.Prelude.{◌≡◌, List, ◌++◌, ◌-◌, ℕ, length, option_map};
+ghost use Rattle.std.specs.Iterator.{YieldsFirstBy, at_most};
+ghost use Rattle.stream.specs.Stream.{record_at, records_of, read_of, left};
 ghost use Rattle.stream.specs.Count.{num_entry_in, stated_by, survey_of};
 
-use kinds::code::NUM_ENTRY;
+use kinds::code::TypeCode;
 
-// At a place: nothing, a record that is cut, or a record with its code, where its fields start and where they end.
-#[derive(Drop)]
-pub enum Found {
-    End,
-    Cut,
-    Record(u64, usize, usize),
+// A record: its code and its fields.
+#[derive(Clone, Copy)]
+pub struct Record<'a> {
+    pub code: u64,
+    pub fields: &'a [u64],
 }
 
-#[derive(Drop)]
-pub enum Frame {
-    Whole,
-    CutAt(usize),
+// The stream ends inside a record: the word index of its head.
+#[derive(Clone, Copy, PartialEq, Eq, Debug)]
+pub struct Cut {
+    pub head: usize,
 }
 
-// Nothing: no NumEntry; Count: the stated count; Faulty: more than one, or an empty one.
-#[derive(Drop)]
-pub enum Stated {
-    Nothing,
-    Count(u64),
-    Faulty,
-}
+// No single count is stated: by more than one NumEntry, or by an empty one.
+#[derive(Clone, Copy, PartialEq, Eq, Debug)]
+pub struct Faulty;
 
-// What is seen of a whole stream before any record is judged.
-#[derive(Drop)]
+// What is seen of a whole stream before any record is judged: whether every record is whole, and the count that is stated, if any.
+#[derive(Clone, Copy, PartialEq, Eq, Debug)]
 pub struct Survey {
-    pub frame: Frame,
-    pub stated: Stated,
+    pub frame: Result<(), Cut>,
+    pub stated: Result<Option<u64>, Faulty>,
 }
 
 // The field count is compared with the words that are left, so that a huge one does not wrap.
-pub fn record_at(words: &[u64], at: usize) -> Found
-    ensures { result ≡ record_at words.now at }
+pub fn record_at(words: &[u64], at: usize) -> Option<Result<Record<'_>, Cut>>
+    ensures { option_map read_of result ≡ record_at words.now at }
 {
-    if words.len() <= at {
-        return Found::End;
+    let left = words.get(at..)?;
+    match left {
+        [] => None,
+        [_] => Some(Err(Cut { head: at })),
+        [code, count, rest @ ..] => match rest.get(..*count as usize) {
+            Some(fields) => Some(Ok(Record {
+                code: *code,
+                fields,
+            })),
+            None => Some(Err(Cut { head: at })),
+        },
     }
-    let left = words.len() - at;
-    if left == 1 {
-        return Found::Cut;
+}
+
+// The records of a stream in order; the last may be one that is cut.
+#[derive(Clone, Drop)]
+pub struct Records<'a> {
+    words: &'a [u64],
+    at: usize,
+}
+
+impl<'a> Records<'a> {
+    pub fn new(words: &'a [u64]) -> Records<'a>
+        ensures { left result ≡ records_of words.now }
+    {
+        Records { words, at: 0 }
     }
-    let code = words[at];
-    let count = words[at + 1] as usize;
-    let start = at + 2;
-    if words.len() - start < count {
-        return Found::Cut;
+}
+
+impl<'a> Iterator for Records<'a> {
+    type Item = Result<Record<'a>, Cut>;
+
+    ghost next_gives = { YieldsFirstBy read_of left };
+
+    ghost remaining = { λ s. at_most (length s.words.now - s.at) };
+
+    fn next(&mut self) -> Option<Result<Record<'a>, Cut>> {
+        let record = record_at(self.words, self.at)?;
+        match record {
+            Ok(whole) => self.at += 2 + whole.fields.len(),
+            Err(_) => self.at = self.words.len(),
+        }
+        Some(record)
     }
-    Found::Record(code, start, start + count)
 }
 
 // What is stated once one more record was seen.
-fn count_in(before: Stated, code: u64, fields: &[u64]) -> Stated
+fn count_in(
+    before: Result<Option<u64>, Faulty>,
+    code: u64,
+    fields: &[u64],
+) -> Result<Option<u64>, Faulty>
     ensures { (seen : List (List ℕ)) → before ≡ stated_by seen
         → result ≡ stated_by (seen ++ num_entry_in code fields.now) }
 {
-    if code != NUM_ENTRY {
+    let Ok(TypeCode::NumEntry) = TypeCode::try_from(code) else {
         return before;
+    };
+    if before?.is_some() {
+        return Err(Faulty);
     }
-    match before {
-        Stated::Nothing => {
-            if fields.len() == 0 {
-                return Stated::Faulty;
-            }
-            Stated::Count(fields[0])
-        }
-        Stated::Count(_) => Stated::Faulty,
-        Stated::Faulty => Stated::Faulty,
-    }
+    let count = fields.first().ok_or(Faulty)?;
+    Ok(Some(*count))
 }
 
 // One sweep over the heads of the records.
 pub fn survey_of(words: &[u64]) -> Survey
     ensures { result ≡ survey_of words.now }
 {
-    let mut at = 0;
-    let mut stated = Stated::Nothing;
-    loop {
-        match record_at(words, at) {
-            Found::End => {
+    let mut stated = Ok(None);
+    for record in Records::new(words) {
+        match record {
+            Ok(record) => stated = count_in(stated, record.code, record.fields),
+            Err(cut) => {
                 return Survey {
-                    frame: Frame::Whole,
-                    stated: stated,
+                    frame: Err(cut),
+                    stated,
                 };
-            }
-            Found::Cut => {
-                return Survey {
-                    frame: Frame::CutAt(at),
-                    stated: stated,
-                };
-            }
-            Found::Record(code, start, end) => {
-                stated = count_in(stated, code, &words[start..end]);
-                at = end;
             }
         }
+    }
+    Survey {
+        frame: Ok(()),
+        stated,
     }
 }

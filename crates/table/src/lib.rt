@@ -5,8 +5,8 @@ pub mod buffer;
 pub mod row;
 
 // A reference: the number of an entry. A rank is another number and another type.
-#[derive(Clone, Copy)]
+#[derive(Clone, Copy, Debug, PartialEq, Eq, PartialOrd, Ord)]
 pub struct TypeRef(pub u64);
 
-#[derive(Clone, Copy)]
+#[derive(Clone, Copy, Debug, PartialEq, Eq, PartialOrd, Ord)]
 pub struct Rank(pub u64);

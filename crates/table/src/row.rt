@@ -1,7 +1,7 @@
 // "A row: kind; number; flag; first reference place; reference count; name start; name length; 1 if named"
 // (01, "Type stream and table").
-ghost use Rattle.std.specs.Prelude.{◌≡◌, get_or};
-ghost use Rattle.table.specs.Rows.{entry_room, row_at, words_of};
+ghost use Rattle.std.specs.Prelude.{◌≡◌, drop, get_or, take};
+ghost use Rattle.table.specs.Rows.{entry_room, place_of, row_at, words_of};
 ghost use Rattle.table.specs.Buffers.{over};
 
 use crate::buffer::put_words;
@@ -11,7 +11,7 @@ pub const ROW_WORDS: usize = 8;
 // "the least of 4,096, .." and "the count is at most 4,096" (01): no table has more entries.
 pub const MAX_ENTRIES: u64 = 4_096;
 
-#[derive(Clone, Copy)]
+#[derive(Clone, Copy, Debug, Default, PartialEq, Eq)]
 pub struct Row {
     pub kind: u64,
     pub number: u64,
@@ -23,6 +23,17 @@ pub struct Row {
     pub named: u64,
 }
 
+impl Row {
+    // The references that the row says, as far as they lie in the buffer.
+    pub fn references<'a>(self, refs: &'a [u64]) -> &'a [u64]
+        ensures { result.now ≡ take self.count (drop self.first refs.now) }
+    {
+        let first = refs.len().min(self.first as usize);
+        let rest = &refs[first..];
+        &rest[..rest.len().min(self.count as usize)]
+    }
+}
+
 // How many rows lie whole in so many words.
 pub fn entry_room(words: usize) -> usize
     ensures { result ≡ entry_room words }
@@ -30,10 +41,18 @@ pub fn entry_room(words: usize) -> usize
     words / ROW_WORDS
 }
 
+// "a place is 0 where its count is 0, a name start 0 where its length is 0"
+pub fn place_of(count: u64, place: u64) -> u64
+    ensures { result ≡ place_of count place }
+{
+    if count == 0 { 0 } else { place }
+}
+
+// Word i; one that is not there reads as 0.
 fn word(rows: &[u64], i: usize) -> u64
     ensures { result ≡ get_or rows.now i 0 }
 {
-    if i < rows.len() { rows[i] } else { 0 }
+    rows.get(i).copied().unwrap_or(0)
 }
 
 // The row of entry e; words that are not there read as 0.
@@ -41,16 +60,7 @@ pub fn row_at(rows: &[u64], e: usize) -> Row
     ensures { result ≡ row_at rows.now e }
 {
     if entry_room(rows.len()) < e {
-        return Row {
-            kind: 0,
-            number: 0,
-            flag: 0,
-            first: 0,
-            count: 0,
-            start: 0,
-            len: 0,
-            named: 0,
-        };
+        return Row::default();
     }
     let at = e * ROW_WORDS;
     Row {
@@ -65,21 +75,10 @@ pub fn row_at(rows: &[u64], e: usize) -> Row
     }
 }
 
-// The row over the front of the unused rest. A whole row is stored word by word, which costs less than a run of any length.
+// The row over the front of the unused rest.
 pub fn put_row(rest: &mut [u64], row: Row)
     ensures { rest.new ≡ over (words_of row) rest.old }
 {
-    if ROW_WORDS <= rest.len() {
-        rest[0] = row.kind;
-        rest[1] = row.number;
-        rest[2] = row.flag;
-        rest[3] = row.first;
-        rest[4] = row.count;
-        rest[5] = row.start;
-        rest[6] = row.len;
-        rest[7] = row.named;
-        return;
-    }
     let words = [
         row.kind, row.number, row.flag, row.first, row.count, row.start, row.len, row.named,
     ];

@@ -1,11 +1,11 @@
-// Which op asks what. Each function of an op puts the answer's body behind the head and answers where it ends: just behind the head "where
-// a case can't be carried out as asked (an unknown op, a payload shorter than its own counts say, a value above 255 where a byte stands,
-// a buffer above the limits ..)".
+// Which op asks what. Each function of an op puts the answer's body; None, and no body, "where a case can't be carried out as asked (an
+// unknown op, a payload shorter than its own counts say, a value above 255 where a byte stands, a buffer above the limits ..)".
 use crate::checker_op::checker_case;
 use crate::layout_op::layout_case;
 use crate::name_op::name_case;
-use crate::out::HEAD_BYTES;
-use crate::table_op::table_case;
+use crate::out::Answer;
+use crate::table_op::{Lent, table_case};
+use arrayvec::ArrayVec;
 
 // "lent buffers of 36,864 words for rows .., 16,384 for references, 16,384 name bytes, 4,096 witness or rank words; layout strings of
 // 4,096 bytes".
@@ -19,48 +19,59 @@ pub(crate) const WITNESS: usize = 4_096;
 
 pub(crate) const LAYOUT_BYTES: usize = 4_096;
 
-pub(crate) fn are_bytes(words: &[u64]) -> bool {
-    let mut i = 0;
-    while i < words.len() {
-        if 255 < words[i] {
-            return false;
+#[derive(Clone, Copy, Debug, PartialEq, Eq)]
+enum Op {
+    Table,
+    Checker,
+    Name,
+    Layout,
+}
+
+#[derive(Clone, Copy, Debug, PartialEq, Eq)]
+struct UnknownOp;
+
+impl TryFrom<u64> for Op {
+    type Error = UnknownOp;
+
+    fn try_from(op: u64) -> Result<Op, UnknownOp> {
+        match op {
+            1 => Ok(Op::Table),
+            2 => Ok(Op::Checker),
+            3 => Ok(Op::Name),
+            4 => Ok(Op::Layout),
+            _ => Err(UnknownOp),
         }
-        i += 1;
-    }
-    true
-}
-
-fn answer_op(
-    op: u64,
-    payload: &[u64],
-    rows: &mut [u64],
-    refs: &mut [u64],
-    names: &mut [u8],
-    witness: &mut [u64],
-    answer: &mut [u8],
-) -> usize {
-    match op {
-        1 => table_case(payload, rows, refs, names, witness, answer),
-        2 => checker_case(payload, names, answer),
-        3 => name_case(payload, names, answer),
-        4 => layout_case(payload, names, answer),
-        _ => HEAD_BYTES,
     }
 }
 
-// The answer to the first so many words of a payload.
+// The next words of a payload, so many, up to a limit.
+pub(crate) fn part<'a>(rest: &mut &'a [u64], count: u64, limit: usize) -> Option<&'a [u64]> {
+    if (limit as u64) < count {
+        return None;
+    }
+    rest.split_off(..count as usize)
+}
+
+// The bytes that the words are, up to N.
+pub(crate) fn bytes_of<const N: usize>(words: &[u64]) -> Option<ArrayVec<u8, N>> {
+    let mut bytes = ArrayVec::new();
+    for word in words {
+        bytes.try_push(u8::try_from(*word).ok()?).ok()?;
+    }
+    Some(bytes)
+}
+
+// The answer's body.
 pub(crate) fn answer_to(
     op: u64,
     payload: &[u64],
-    words: usize,
-    rows: &mut [u64],
-    refs: &mut [u64],
-    names: &mut [u8],
-    witness: &mut [u64],
-    answer: &mut [u8],
-) -> usize {
-    if words <= payload.len() {
-        return answer_op(op, &payload[..words], rows, refs, names, witness, answer);
+    lent: &mut Lent,
+    answer: &mut Answer,
+) -> Option<()> {
+    match Op::try_from(op).ok()? {
+        Op::Table => table_case(payload, lent, answer),
+        Op::Checker => checker_case(payload, answer),
+        Op::Name => name_case(payload, answer),
+        Op::Layout => layout_case(payload, answer),
     }
-    HEAD_BYTES
 }

@@ -7,154 +7,70 @@ mod checker_op;
 mod layout_op;
 mod name_op;
 mod out;
+mod payload;
 mod table_op;
-mod told;
 
-use cases::{NAMES, REFERENCES, ROWS, WITNESS};
-use inout::read_full;
-use std::io::{self, Input, Read, Write};
+use cases::{NAMES, REFERENCES, ROWS, WITNESS, answer_to};
+use out::{Answer, WORD_BYTES};
+use payload::{PAYLOAD_BYTES, PAYLOAD_WORDS, Payload};
+use std::io::{self, ErrorKind, Input, Read, Write};
+use table_op::Lent;
 use wire::words::put_stream;
 
-// "Limits: a payload of 65,536 words".
-const PAYLOAD_WORDS: usize = 65_536;
-
-const PAYLOAD_BYTES: usize = 524_288;
-
-// The longest answer: op, length, three words, and the four outputs whole.
-const ANSWER_BYTES: usize = 589_864;
-
-// The words of so many bytes, laid over the front of the payload.
-fn put_front(payload: &mut [u64], input: &[u8], bytes: usize) {
-    if bytes <= input.len() {
-        put_stream(payload, &input[..bytes]);
-    }
+// A case that is read, what its table is read into, and its answer.
+#[derive(Drop)]
+struct Case {
+    payload: Payload,
+    lent: Lent,
+    answer: Answer,
 }
 
-// So many words of standard input, laid over the front of the payload; whether there were so many.
-fn read_words<R: Read>(
-    reader: &mut R,
-    input: &mut [u8],
-    payload: &mut [u64],
-    words: usize,
-) -> io::Result<bool> {
-    if PAYLOAD_WORDS < words {
-        return Ok(false);
-    }
-    let bytes = words * 8;
-    if bytes <= input.len() {
-        let got = read_full(reader, &mut input[..bytes])?;
-        put_front(payload, input, got);
-        return Ok(got == bytes);
-    }
-    Ok(false)
-}
-
-// The same for a payload above the limit, of which nothing is kept.
-fn pass_over<R: Read>(
-    reader: &mut R,
-    input: &mut [u8],
-    payload: &mut [u64],
-    words: u64,
-) -> io::Result<bool> {
-    let mut left = words;
-    while PAYLOAD_WORDS as u64 <= left {
-        if !read_words(reader, input, payload, PAYLOAD_WORDS)? {
-            return Ok(false);
+impl Case {
+    // A payload above the limit is passed over, and its answer has no body.
+    fn take<R: Read, W: Write>(&mut self, reader: &mut R, writer: &mut W) -> io::Result<()> {
+        let mut head_bytes = [0u8; 2 * WORD_BYTES];
+        reader.read_exact(&mut head_bytes)?;
+        let mut head = [0u64; 2];
+        put_stream(&mut head, &head_bytes);
+        let [op, length] = head;
+        let Case {
+            payload,
+            lent,
+            answer,
+        } = self;
+        answer.begin(op);
+        if let Some(words) = payload.read(reader, length)? {
+            let _carried_out = answer_to(op, words, lent, answer);
         }
-        left -= PAYLOAD_WORDS as u64;
+        writer.write_all(answer.as_bytes())
     }
-    read_words(reader, input, payload, left as usize)
-}
 
-// Writes the answer that ends at `end`.
-fn write_answer<W: Write>(
-    writer: &mut W,
-    answer: &mut [u8],
-    op: u64,
-    end: usize,
-) -> io::Result<bool> {
-    out::put_head(answer, op, end);
-    if end <= answer.len() {
-        writer.write_all(&answer[..end])?;
-        return Ok(true);
-    }
-    Ok(false)
-}
-
-// One case; whether to go on. "Where the input ends inside a case the program stops after the last whole answer."
-fn take_case<R: Read, W: Write>(
-    reader: &mut R,
-    writer: &mut W,
-    input: &mut [u8],
-    payload: &mut [u64],
-    rows: &mut [u64],
-    refs: &mut [u64],
-    names: &mut [u8],
-    witness: &mut [u64],
-    answer: &mut [u8],
-) -> io::Result<bool> {
-    let mut head_bytes = [0u8; 16];
-    let got = read_full(reader, &mut head_bytes)?;
-    if got < 16 {
-        return Ok(false);
-    }
-    let mut head = [0u64; 2];
-    put_stream(&mut head, &head_bytes);
-    let op = head[0];
-    let length = head[1];
-    if (PAYLOAD_WORDS as u64) < length {
-        if !pass_over(reader, input, payload, length)? {
-            return Ok(false);
+    // A proved loop has to end, and nothing says that the input does: the cases are counted, up to a number that no run reaches.
+    fn take_all<R: Read, W: Write>(&mut self, reader: &mut R, writer: &mut W) -> io::Result<()> {
+        for _ in 0..u64::MAX {
+            self.take(reader, writer)?;
         }
-        return write_answer(writer, answer, op, out::HEAD_BYTES);
+        Ok(())
     }
-    let words = length as usize;
-    if !read_words(reader, input, payload, words)? {
-        return Ok(false);
-    }
-    let end = cases::answer_to(op, payload, words, rows, refs, names, witness, answer);
-    write_answer(writer, answer, op, end)
 }
 
-// A proved loop has to end, and nothing says that the input does: the cases are counted, up to a number that no run reaches.
-fn take_cases<R: Read, W: Write>(
-    reader: &mut R,
-    writer: &mut W,
-    input: &mut [u8; PAYLOAD_BYTES],
-    payload: &mut [u64],
-    rows: &mut [u64],
-    refs: &mut [u64],
-    names: &mut [u8],
-    witness: &mut [u64],
-    answer: &mut [u8; ANSWER_BYTES],
-) -> io::Result<()> {
-    for _ in 0..u64::MAX {
-        if !take_case(
-            reader, writer, input, payload, rows, refs, names, witness, answer,
-        )? {
-            break;
-        }
-    }
-    Ok(())
-}
-
+// "Where the input ends inside a case the program stops after the last whole answer."
 fn main(rt: HostRuntime) -> io::Result<()> {
-    let mut input = [0u8; PAYLOAD_BYTES];
-    let mut payload = [0u64; PAYLOAD_WORDS];
-    let mut rows = [0u64; ROWS];
-    let mut refs = [0u64; REFERENCES];
-    let mut names = [0u8; NAMES];
-    let mut witness = [0u64; WITNESS];
-    let mut answer = [0u8; ANSWER_BYTES];
-    take_cases(
-        &mut rt.reader(),
-        &mut io::writer(&rt),
-        &mut input,
-        &mut payload,
-        &mut rows,
-        &mut refs,
-        &mut names,
-        &mut witness,
-        &mut answer,
-    )
+    let mut case = Case {
+        payload: Payload {
+            bytes: [0; PAYLOAD_BYTES],
+            words: [0; PAYLOAD_WORDS],
+        },
+        lent: Lent {
+            rows: [0; ROWS],
+            refs: [0; REFERENCES],
+            names: [0; NAMES],
+            witness: [0; WITNESS],
+        },
+        answer: Answer::new(),
+    };
+    match case.take_all(&mut rt.reader(), &mut io::writer(&rt)) {
+        Err(e) if e.kind() == ErrorKind::UnexpectedEof => Ok(()),
+        ended => ended,
+    }
 }

@@ -1,59 +1,67 @@
-// An answer's words as bytes: the body is put first, then the head, which has the body's length.
+// An answer as it is put together, little-endian words one behind the other.
+use arrayvec::ArrayVec;
 
-// Op and length.
-pub(crate) const HEAD_BYTES: usize = 16;
+// The longest answer: op, length, three words, and the four outputs whole.
+const ANSWER_BYTES: usize = 589_864;
 
-fn low_byte(word: u64) -> u8 {
-    (word % 256) as u8
+pub(crate) const WORD_BYTES: usize = 8;
+
+// Op, length and body; the length is set when the body is whole.
+#[derive(Drop)]
+pub(crate) struct Answer {
+    bytes: ArrayVec<u8, ANSWER_BYTES>,
 }
 
-fn wide(byte: u8) -> u64 {
-    byte as u64
-}
+impl Answer {
+    pub(crate) fn new() -> Answer {
+        Answer {
+            bytes: ArrayVec::new(),
+        }
+    }
 
-// The word's eight bytes, the least significant first; nothing where there is no room. Answers where they end.
-pub(crate) fn put(answer: &mut [u8], at: usize, word: u64) -> usize {
-    if answer.len() < at {
-        return at;
+    // The head of another answer takes the place of this one.
+    pub(crate) fn begin(&mut self, op: u64) {
+        self.bytes.clear();
+        self.put(op);
+        self.put(0);
     }
-    if answer.len() - at < 8 {
-        return at;
-    }
-    let mut rest = word;
-    for i in 0..8 {
-        answer[at + i] = low_byte(rest);
-        rest = rest / 256;
-    }
-    at + 8
-}
 
-pub(crate) fn put_words(answer: &mut [u8], at: usize, words: &[u64]) -> usize {
-    let mut end = at;
-    let mut i = 0;
-    while i < words.len() {
-        end = put(answer, end, words[i]);
-        i += 1;
+    // There is room for the words of every answer.
+    pub(crate) fn put(&mut self, word: u64) {
+        let _fits = self.bytes.try_extend_from_slice(&word.to_le_bytes());
     }
-    end
-}
 
-// "A byte (of a name, of a layout string) is one word, 0 to 255."
-pub(crate) fn put_bytes_as_words(answer: &mut [u8], at: usize, bytes: &[u8]) -> usize {
-    let mut end = at;
-    let mut i = 0;
-    while i < bytes.len() {
-        end = put(answer, end, wide(bytes[i]));
-        i += 1;
+    // "number (0: accepted), place (accepted: the entry count), detail"
+    // Kept: the library lays the same three words over a lent buffer; a function of both for three words is no plainer.
+    pub(crate) fn put_read(&mut self, read: ferry::Answer) {
+        let words = match read {
+            Ok(entries) => [0, entries, 0],
+            Err(refusal) => [refusal.number, refusal.place, refusal.detail],
+        };
+        self.put_all(&words);
     }
-    end
-}
 
-// The head of an answer whose body ends at `end`.
-pub(crate) fn put_head(answer: &mut [u8], op: u64, end: usize) {
-    if end < HEAD_BYTES {
-        return;
+    // "A byte (of a name, of a layout string) is one word, 0 to 255."
+    pub(crate) fn put_all<T: Copy>(&mut self, items: &[T])
+    where
+        u64: From<T>,
+    {
+        for item in items {
+            self.put(u64::from(*item));
+        }
     }
-    let body = (end - HEAD_BYTES) / 8;
-    let at = put(answer, 0, op);
-    put(answer, at, body as u64);
+
+    // The whole answer, its body as long as it is now.
+    pub(crate) fn as_bytes(&mut self) -> &[u8] {
+        let words = (self.bytes.len() / WORD_BYTES) as u64;
+        let length = words.saturating_sub(2);
+        if let Some(place) = self
+            .bytes
+            .as_mut_slice()
+            .get_mut(WORD_BYTES..2 * WORD_BYTES)
+        {
+            place.copy_from_slice(&length.to_le_bytes());
+        }
+        self.bytes.as_slice()
+    }
 }

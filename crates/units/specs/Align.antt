@@ -2,9 +2,8 @@
 --     alignment unit n     the alignment that is n units: unit 8 for bits, 1 for bytes
 --     size_of unit shift    how many units an alignment is
 -- Assumes nothing.
-use Rattle.std.specs.Prelude.{cond, ℕ, zero, suc, ◌*◌, ◌^◌, eqb, leb, ltb}
-use Rattle.units.specs.declared.align.Alignment.{Alignment}
-use Rattle.units.specs.declared.align.Alignment.TheVariants.{Of, Bad}
+use Rattle.std.specs.Prelude.{cond, ℕ, zero, suc, ◌*◌, ◌^◌, eqb, leb, ltb, Option, Some, None}
+use Rattle.units.specs.declared.align.Align.{Align}
 
 -- `Align`'s `MAX_SHIFT`
 abbrev pub max_shift : ℕ
@@ -13,19 +12,19 @@ max_shift = 63
 abbrev pub bits_in_byte : ℕ
 bits_in_byte = 8
 
-abbrev pub at : ℕ → Alignment
-at shift = Of (record { 0 = shift })
+abbrev pub at : ℕ → Option Align
+at shift = Some (record { 0 = shift })
 
 -- the shift below `limit` at which n is that many times the unit
-unfoldable pub shift_below : ℕ → ℕ → ℕ → Alignment
-shift_below zero unit n = Bad
+unfoldable pub shift_below : ℕ → ℕ → ℕ → Option Align
+shift_below zero unit n = None
 shift_below (suc shift) unit n = cond (eqb n (unit * 2 ^ shift)) (at shift) (shift_below shift unit n)
 
-abbrev pub alignment : ℕ → ℕ → Alignment
+abbrev pub alignment : ℕ → ℕ → Option Align
 alignment unit n = shift_below (suc max_shift) unit n
 
-abbrev pub from_shift : ℕ → Alignment
-from_shift shift = cond (leb shift max_shift) (at shift) Bad
+abbrev pub from_shift : ℕ → Option Align
+from_shift shift = cond (leb shift max_shift) (at shift) None
 
 -- 0 where 64 bits do not hold it
 abbrev pub size_of : ℕ → ℕ → ℕ

@@ -2,10 +2,8 @@
 -- spaces and widths, u64 for sizes and alignments."
 --     decimal most s     the bytes s as a number that is at most `most`
 -- Assumes nothing.
-use Rattle.std.specs.Prelude.{Bool, true, ◌&&◌, cond, List, [], ◌∷◌, ℕ, ◌+◌, ◌*◌, ◌-◌, eqb, leb}
+use Rattle.std.specs.Prelude.{Bool, true, ◌&&◌, cond, List, [], ◌∷◌, ℕ, ◌+◌, ◌*◌, ◌-◌, eqb, leb, Option, Some, None}
 use Rattle.laws.specs.Numbers.{within}
-use Rattle.units.specs.declared.decimal.Decimal.{Decimal}
-use Rattle.units.specs.declared.decimal.Decimal.TheVariants.{Number, Bad}
 
 -- a digit is a byte from `0` (48) to `9` (57)
 abbrev pub is_digit : ℕ → Bool
@@ -21,17 +19,17 @@ value_from value [] = value
 value_from value (b ∷ bs) = value_from (value * 10 + (b - 48)) bs
 
 -- "no overflow"
-abbrev pub number_from : ℕ → ℕ → List ℕ → Decimal
-number_from most value s = cond (all_digits s && leb (value_from value s) most) (Number (value_from value s)) Bad
+abbrev pub number_from : ℕ → ℕ → List ℕ → Option ℕ
+number_from most value s = cond (all_digits s && leb (value_from value s) most) (Some (value_from value s)) None
 
 -- "one or more digits"
-unfoldable pub digits : ℕ → List ℕ → Decimal
-digits most [] = Bad
+unfoldable pub digits : ℕ → List ℕ → Option ℕ
+digits most [] = None
 digits most (b ∷ bs) = number_from most 0 (b ∷ bs)
 
 -- "one optional `+`" (43)
-unfoldable pub decimal : ℕ → List ℕ → Decimal
-decimal most [] = Bad
+unfoldable pub decimal : ℕ → List ℕ → Option ℕ
+decimal most [] = None
 decimal most (b ∷ bs) = cond (eqb b 43) (digits most bs) (digits most (b ∷ bs))
 
 -- "u32 for spaces and widths, u64 for sizes and alignments"

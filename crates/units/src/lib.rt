@@ -4,3 +4,4 @@
 pub mod align;
 pub mod decimal;
 pub mod limits;
+pub mod refusal;

@@ -18,32 +18,24 @@ pub const MIN_TYPE_WIDTH: u64 = 1;
 
 pub const MAX_TYPE_WIDTH: u64 = MAX_23_BITS;
 
+// Kept: three named questions, each one match with its own sentence's range; one with the ends as parameters is no plainer.
 // The Rust's `IntegerType::try_from`.
 pub fn is_integer_width(width: u64) -> bool
     ensures { result ≡ is_integer_width width }
 {
-    match width {
-        MIN_INT_BITS..=MAX_INT_BITS => true,
-        _ => false,
-    }
+    matches!(width, MIN_INT_BITS..=MAX_INT_BITS)
 }
 
 // The Rust's `AddressSpace::try_from`, over u64: a number above 32 bits is refused and not cut.
 pub fn is_address_space(space: u64) -> bool
     ensures { result ≡ is_address_space space }
 {
-    match space {
-        0..=MAX_ADDRESS_SPACE => true,
-        _ => false,
-    }
+    matches!(space, 0..=MAX_ADDRESS_SPACE)
 }
 
 // The Rust's `AlignedTypeWidth::try_from`.
 pub fn is_type_width(width: u64) -> bool
     ensures { result ≡ is_type_width width }
 {
-    match width {
-        MIN_TYPE_WIDTH..=MAX_TYPE_WIDTH => true,
-        _ => false,
-    }
+    matches!(width, MIN_TYPE_WIDTH..=MAX_TYPE_WIDTH)
 }

@@ -4,9 +4,9 @@
 --     rest_of rows b     the ranges of the bytes behind the first byte b; where b starts no row, a byte that is nowhere
 --     pays rs s         s has bytes in the ranges rs, and then whole sequences to its end
 --     is_utf8 s          s is a run of whole sequences
---     owing o           what o says is owed, as ranges
+--     owing o           what o says is owed, as ranges; where it says that nothing can follow, a byte that is nowhere
 -- Assumes nothing.
-use Rattle.std.specs.Prelude.{Bool, true, false, cond, ◌&&◌, List, [], ◌∷◌, ℕ, zero, suc, replicate}
+use Rattle.std.specs.Prelude.{Bool, true, false, cond, ◌&&◌, List, [], ◌∷◌, ℕ, zero, suc, replicate, Option, None, Some}
 use Rattle.laws.specs.Numbers.{within}
 use Rattle.utf8.specs.declared.Owed.{Owed}
 
@@ -63,5 +63,6 @@ abbrev ranges : ℕ → Range → List Range
 ranges zero r = []
 ranges (suc n) r = r ∷ replicate n follower
 
-abbrev pub owing : Owed → List Range
-owing o = ranges o.left (range o.low o.high)
+abbrev pub owing : Option Owed → List Range
+owing None = nowhere ∷ []
+owing (Some o) = ranges o.left (range o.low o.high)

@@ -1,7 +1,5 @@
-pub mod Answers
 pub mod Judge
 pub mod Marks
-pub mod Fits
 pub mod Ready
 pub mod Rings
 pub mod Walk

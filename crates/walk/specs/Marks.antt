@@ -5,24 +5,19 @@
 --     Path p ms            the path p is what the marks say
 --     Ready ms d c         the walk may go on at depth d, where c is counted besides the entries not started
 --     Kept a .. d c        and may go on after the answer a, if that is a rank
---     Shows p l a o        the witness l and the answer a show the outcome o, below the path p
+--     Stopped p l stop a   the witness l and the stop show the answer a, below the path p
+--     Shows p l a o        the witness l and the answer a show the outcome o, below the path p;  Upward l a o  of the whole pass
 --     EntryWalked, StretchWalked   both, of an entry and of a stretch of references
 -- Assumes nothing.
-use Rattle.std.specs.Prelude.{◌≡◌, cond, List, ◌++◌, map, ℕ, suc, ◌+◌, ◌-◌, ◌≤◌, ◌<◌, min, eqb, leb, length, get_or, set, drop}
+use Rattle.std.specs.Prelude.{◌≡◌, cond, List, [], ◌++◌, map, ℕ, suc, ◌+◌, ◌-◌, ◌≤◌, ◌<◌, eqb, leb, length, get_or, set, drop, Result, Ok, Err}
 use Rattle.table.specs.Buffers.{zeros, padded}
 use Rattle.table.specs.declared.Rank.{Rank}
 use Rattle.ranks.specs.Walk as ranks
 use Rattle.ranks.specs.Walk.{Out, out, unstarted}
 use Rattle.rules.specs.Lawful.{max_entries, table_of}
-use Rattle.walk.specs.declared.judge.Stretch.{Stretch}
-use Rattle.walk.specs.declared.Walked.{Walked}
-use Rattle.walk.specs.declared.Walked.TheVariants.{Ranked, Ring, Refused}
+use Rattle.walk.specs.declared.Stop.{Stop}
+use Rattle.walk.specs.declared.Stop.TheVariants.{Ring, Refused}
 use Rattle.walk.specs.Answers.{number_in, detail_in}
-
--- the part of a stretch of count elements from first on that lies in a buffer of that room
-pub record Clipped (first count room : ℕ) (s : Stretch) : Type 0 where
-  pub at : s.at ≡ min first room
-  pub left : s.left ≡ min count (room - first)
 
 abbrev pub finished : ℕ
 finished = suc max_entries
@@ -50,10 +45,9 @@ pub record RankKept (before after : List ℕ) (d c : ℕ) : Type 0 where
   pub same : (x : ℕ) → 0 < get_or before x 0 → get_or after x 0 ≡ get_or before x 0
   pub begun : (x : ℕ) → 0 < get_or after x 0 → get_or after x 0 ≤ max_entries → get_or after x 0 ≡ get_or before x 0
 
-abbrev pub Kept : Walked → List ℕ → List ℕ → ℕ → ℕ → Type 0
-Kept (Ranked k) before after d c = RankKept before after d (k.0 + c)
-Kept (Ring k from n) before after d c = Unit {0}
-Kept (Refused e f) before after d c = Unit {0}
+abbrev pub Kept : Result Rank Stop → List ℕ → List ℕ → ℕ → ℕ → Type 0
+Kept (Ok k) before after d c = RankKept before after d (k.0 + c)
+Kept (Err stop) before after d c = Unit {0}
 
 -- the rank of a finished entry
 abbrev pub ranked : ℕ → ℕ
@@ -71,24 +65,32 @@ pub record RingShown (p l : List ℕ) (k from n : ℕ) (a : ranks.Answer) : Type
   pub long : length (drop from p ++ more) ≡ n
   pub content : l ≡ blank (length p - from) (padded (length l) (drop from p ++ more))
 
-abbrev pub Shows : List ℕ → List ℕ → Walked → Out → Type 0
-Shows p l (Ranked k) o = o ≡ out (plainly l) (ranks.Rank k.0)
-Shows p l (Ring k from n) o = RingShown p l k from n o.answer
-Shows p l (Refused e f) o = o.answer ≡ ranks.Bad (number_in f) e (detail_in f)
+abbrev pub Stopped : List ℕ → List ℕ → Stop → ranks.Answer → Type 0
+Stopped p l (Ring k from n) a = RingShown p l k from n a
+Stopped p l (Refused e f) a = a ≡ ranks.Bad (number_in f) e (detail_in f)
+
+abbrev pub Shows : List ℕ → List ℕ → Result Rank Stop → Out → Type 0
+Shows p l (Ok k) o = o ≡ out (plainly l) (ranks.Rank k.0)
+Shows p l (Err stop) o = Stopped p l stop o.answer
+
+-- of the whole pass, which has no rank
+abbrev pub Upward : List ℕ → Result Unit Stop → Out → Type 0
+Upward l (Ok u) o = o ≡ out (plainly l) (ranks.Rank 0)
+Upward l (Err stop) o = Stopped [] l stop o.answer
 
 -- an entry that has its rank from its references, after its own rule
-pub record Finished (before after : List ℕ) (e k : ℕ) (a : Walked) (o : Out) : Type 0 where
+pub record Finished (before after : List ℕ) (e k : ℕ) (a : Result Rank Stop) (o : Out) : Type 0 where
   pub shows : (p : List ℕ) → Shows p after a o
-  pub stored : (r : Rank) → a ≡ Ranked r → (r.0 ≡ k) × (after ≡ set before e (k + finished))
+  pub stored : (r : Rank) → a ≡ Ok r → (r.0 ≡ k) × (after ≡ set before e (k + finished))
 
 -- what the walk of entry e leaves and answers, from the marks ms on
-pub record EntryWalked (rows refs ms : List ℕ) (d e : ℕ) (l : List ℕ) (a : Walked) : Type 0 where
+pub record EntryWalked (rows refs ms : List ℕ) (d e : ℕ) (l : List ℕ) (a : Result Rank Stop) : Type 0 where
   pub kept : Kept a ms l d (d + 1)
   pub shows : (f : ℕ) (p : List ℕ) → unstarted ms ≤ f → length p ≡ d → Path p ms
       → Shows p l a (ranks.entry f (table_of rows refs (length ms)) p (plainly ms) e)
 
 -- and that of the references rs of e
-pub record StretchWalked (rows refs ms : List ℕ) (d e : ℕ) (rs l : List ℕ) (a : Walked) : Type 0 where
+pub record StretchWalked (rows refs ms : List ℕ) (d e : ℕ) (rs l : List ℕ) (a : Result Rank Stop) : Type 0 where
   pub kept : Kept a ms l d d
   pub shows : (f : ℕ) (p : List ℕ) → unstarted ms ≤ f → length p ≡ d → Path p ms
       → Shows p l a (ranks.stretch (table_of rows refs (length ms)) (ranks.entry f (table_of rows refs (length ms)) p) e (plainly ms) 0 rs)

@@ -3,39 +3,37 @@
 
 pub mod judge;
 pub mod marks;
+mod refusal;
 pub mod walk;
 
 use rules::Place;
-use table::Rank;
 
 // What an entry is refused for, with the detail of document 01's table.
-#[derive(Drop)]
+#[derive(Clone, Copy, Debug, PartialEq, Eq)]
 pub enum Fault {
     OutOfRange(u64),
     Width(u64),
     Referent(Place, u64),
 }
 
-// The own rule of an entry.
-#[derive(Drop)]
-pub enum Judged {
-    Kept,
-    Broken(Fault),
+// What ends the walk of an entry, or of a stretch of references, before it has a rank: an unfinished entry met again, which was begun
+// at that depth of the path, in a ring of so many; or an entry that is at fault.
+#[derive(Clone, Copy, Debug, PartialEq, Eq)]
+pub(crate) enum Stop {
+    Ring {
+        again: usize,
+        from: usize,
+        len: usize,
+    },
+    Refused {
+        entry: usize,
+        fault: Fault,
+    },
 }
 
-// Where the walk of an entry, or of a stretch of references, ends: with a rank; at an unfinished entry, which was begun at that
-// depth of the path, in a ring of so many; or with the entry that is at fault.
-#[derive(Drop)]
-pub enum Walked {
-    Ranked(Rank),
-    Ring(usize, usize, usize),
-    Refused(usize, Fault),
-}
-
-// The answer of the whole pass: of a cycle, the entry met again and the ring's length.
-#[derive(Drop)]
-pub enum Resolution {
-    Accepted,
-    Refused(usize, Fault),
-    Cycle(usize, usize),
+// What the pass refuses a table for: an entry that is at fault, or a cycle, of which the entry met again and the ring's length are told.
+#[derive(Clone, Copy, Debug, PartialEq, Eq)]
+pub enum Error {
+    Refused { entry: usize, fault: Fault },
+    Cycle { again: usize, length: usize },
 }

@@ -4,36 +4,25 @@ ghost use Rattle.walk.specs.Resolve.{entries_of};
 ghost use Rattle.walk.specs.Marks.{ranked};
 
 use rules::MAX_ENTRIES;
-use table::buffer::least;
 use table::row::entry_room;
 
+// Kept: a mark is a number and no enum, since it stands in a word of the lent witness.
 pub const FINISHED: u64 = MAX_ENTRIES + 1;
-
-pub(crate) fn less(a: usize, b: usize) -> usize
-    ensures { result ≡ a - b }
-{
-    if b <= a { a - b } else { 0 }
-}
 
 // As many entries as rows of so many words, a witness of that room and 4,096 have place for.
 pub(crate) fn entries(count: usize, words: usize, room: usize) -> usize
     ensures { result ≡ entries_of count words room }
 {
-    least(
-        count,
-        least(entry_room(words), least(room, MAX_ENTRIES as usize)),
-    )
+    let rows = entry_room(words);
+    count.min(rows.min(room.min(MAX_ENTRIES as usize)))
 }
 
 // An entry at that depth of the path is in the ring if the entry met again was begun no deeper.
 pub(crate) fn enter_ring(marks: &mut [u64], depth: usize, from: usize, e: usize)
     ensures { marks.new ≡ cond (leb from depth) (set marks.old (depth - from) e) marks.old }
 {
-    if from <= depth {
-        let i = depth - from;
-        if i < marks.len() {
-            marks[i] = e as u64;
-        }
+    if from <= depth && depth - from < marks.len() {
+        marks[depth - from] = e as u64;
     }
 }
 
@@ -41,10 +30,7 @@ pub(crate) fn enter_ring(marks: &mut [u64], depth: usize, from: usize, e: usize)
 pub(crate) fn settle(marks: &mut [u64])
     ensures { marks.new ≡ map ranked marks.old }
 {
-    let mut i = 0;
-    while i < marks.len() {
-        let m = marks[i] as usize;
-        marks[i] = less(m, FINISHED as usize) as u64;
-        i += 1;
+    for mark in marks.iter_mut() {
+        *mark = mark.saturating_sub(FINISHED);
     }
 }

@@ -1,5 +1,5 @@
 -- Laws of `ascii_up_to`: each goes down the string byte by byte, by whether a byte is ASCII.
---     ascii_up_to-hit, -miss, -end       one for each way through a turn of the search
+--     first_of_both, first_from         the library's search for a byte that is the separator or not ASCII
 --     ascii_up_to-le, -before, -at       where it ends, and what stands before and there
 --     ascii_up_to-past                   behind bytes that are ASCII it goes on
 --     ascii_up_to-le-up_to                it ends no later than a search for a byte that is not ASCII
@@ -8,27 +8,17 @@ use mathlib.Core.Path.{◌≡◌, refl}
 use mathlib.Core.Bool.{Bool, true, false, cond}
 use mathlib.Core.List.{List, [], ◌∷◌}
 use Prim.Native.Nat.{ℕ, zero, suc, ◌+◌, ◌≤◌, ◌<◌}
-use native.Mathlib.Numerals.{add-one}
 use native.Mathlib.Omega.{arith}
 use lib.Dec.{eqb, ltb}
-use lib.ListN.{length, get_or, drop, drop_of_length-le}
-use lib.Seq.{drop-cons}
-use borrow.Author.Tests.{lt-ltb, le-ltb, ltb-true, ltb-false, eqb-true}
-use Rattle.fields.specs.Parts.{up_to}
+use lib.ListN.{length, get_or, take, drop}
+use borrow.Author.Tests.{ltb-true, ltb-false, eqb-true}
+use Rattle.std.proofs.Common.{◌||◌, not, min, position, unwrap_or, Option, ◌-◌, ◌∙◌}
+use Rattle.std.proofs.lemmas.List.Recursion.{is_position_or_len}
+use Rattle.std.specs.Char.{is_ascii}
+use Rattle.std.proofs.lemmas.List.{drop_min}
+use Rattle.laws.proofs.Rests.{rest_part}
+use Rattle.fields.specs.Parts.{up_to, end_of}
 use Rattle.datalayout.specs.Strings.{ascii_up_to}
-
-module _ (s : List ℕ) (i : ℕ) where
-  pub ascii_up_to-hit : i < length s → 128 ≤ get_or s i 0 → ascii_up_to (drop i s) ≡ 0
-  unfolding ascii_up_to
-  ascii_up_to-hit lt h = rw (drop-cons s i 0, le-ltb (get_or s i 0) 128 h)
-
-  pub ascii_up_to-miss : i < length s → get_or s i 0 < 128 → ascii_up_to (drop i s) ≡ suc (ascii_up_to (drop (i + 1) s))
-  unfolding ascii_up_to
-  ascii_up_to-miss lt h = rw (drop-cons s i 0, lt-ltb (get_or s i 0) 128 h, add-one)
-
-  pub ascii_up_to-end : length s ≤ i → ascii_up_to (drop i s) ≡ 0
-  unfolding ascii_up_to
-  ascii_up_to-end h = rw (drop_of_length-le s h)
 
 pub ascii_up_to-le : (s : List ℕ) → ascii_up_to s ≤ length s
 unfolding ascii_up_to
@@ -38,6 +28,36 @@ ascii_up_to-le (byte ∷ bytes) = go (ltb byte 128) (ascii_up_to-le bytes)
     go : (t : Bool) → ascii_up_to bytes ≤ length bytes → cond t (suc (ascii_up_to bytes)) 0 ≤ suc (length bytes)
     go true h = omega arith
     go false h = omega arith
+
+-- the library's search for whichever comes first
+pub first_of_both : (b : ℕ) (s : List ℕ)
+    → unwrap_or (position (λ byte. eqb byte b || not (is_ascii byte)) s) (length s) ≡ min (up_to b s) (ascii_up_to s)
+unfolding up_to ascii_up_to
+first_of_both b s =
+    let first = is_position_or_len (λ l. min (up_to b l) (ascii_up_to l)) (λ byte. eqb byte b || not (is_ascii byte)) refl step s in
+    let within = ascii_up_to-le s in
+    grind (arith, first, within)
+  where
+    step : (byte : ℕ) (bytes : List ℕ) → min (up_to b (byte ∷ bytes)) (ascii_up_to (byte ∷ bytes))
+        ≡ cond (eqb byte b || not (is_ascii byte)) 0 (1 + min (up_to b bytes) (ascii_up_to bytes))
+    step byte bytes = go (eqb byte b) (ltb byte 128)
+      where
+        go : (t u : Bool) → min (cond t 0 (suc (up_to b bytes))) (cond u (suc (ascii_up_to bytes)) 0)
+            ≡ cond (t || not u) 0 (1 + min (up_to b bytes) (ascii_up_to bytes))
+        go true u = omega arith
+        go false true = omega arith
+        go false false = omega arith
+
+-- that search, in what is left of the string from `from` on
+pub first_from : (b from m part : ℕ) (found : Option ℕ) (s : List ℕ) → m ≡ min from (length s)
+    → found ≡ position (λ byte. eqb byte b || not (is_ascii byte)) (take (length s - m) (drop m s))
+    → part ≡ unwrap_or found (length (take (length s - m) (drop m s)))
+    → from + part ≡ min (end_of b s from) (from + ascii_up_to (drop from s))
+first_from b from m part found s least search is =
+    let rest : take (length s - m) (drop m s) ≡ drop from s = rest_part s m ∙ rw least (drop_min from s) in
+    let first : part ≡ min (up_to b (drop from s)) (ascii_up_to (drop from s)) =
+    is ∙ rw (search, rest) (first_of_both b (drop from s)) in
+    omega arith
 
 pub ascii_up_to-before : (s : List ℕ) (i : ℕ) → i < ascii_up_to s → get_or s i 0 < 128
 unfolding ascii_up_to

@@ -7,14 +7,14 @@ use Prim.Native.Nat.{ℕ, ◌+◌, ◌-◌, ◌≤◌}
 use native.Mathlib.Omega.{arith}
 use lib.ListN.{length, take, drop, length-drop}
 use lib.Seq.{length-take-le}
+use Rattle.std.proofs.Common.{Ok, Err}
 use Rattle.layout.specs.declared.record.DataLayout.{DataLayout}
 use Rattle.fields.specs.declared.numbers.Fault.{Fault}
 use Rattle.fields.specs.Parts.{dash, parts_of, end_of}
 use Rattle.fields.proofs.Laws.Parts.{end_of-bound, parts_of-last, parts_of-more, parts_of-head}
 use Rattle.spec.specs.Specs.{spec_in}
-use Rattle.datalayout.specs.declared.answer.Answer.TheVariants.{Refused}
+use Rattle.datalayout.specs.declared.error.Error.TheVariants.{Refused}
 use Rattle.datalayout.specs.declared.apply.Applied.{Applied}
-use Rattle.datalayout.specs.declared.apply.Outcome.TheVariants.{Done, Refused as Fails}
 use Rattle.datalayout.specs.declared.map.Mapped.{Mapped}
 use Rattle.datalayout.specs.Apply.{applied}
 use Rattle.datalayout.specs.Strings.{taken_with, refused_with, specs_from}
@@ -25,18 +25,18 @@ module _ (layout : DataLayout) (s : List ℕ) (at end : ℕ) (in-s : at ≤ leng
   abbrev rest : Mapped
   rest = specs_from layout at (parts_of dash (drop at s))
 
-  pub specs_from-refused : (fault : Fault) → next.outcome ≡ Fails fault → refused_with (Refused fault at) ≡ rest
+  pub specs_from-refused : (fault : Fault) → next.outcome ≡ Err fault → refused_with (Refused fault at) ≡ rest
   unfolding specs_from
   specs_from-refused fault refused =
       parts_of-head dash s at end in-s is
       (λ ps. refused_with (Refused fault at) ≡ specs_from layout at ps)
       (λ ps. rw (← made, refused))
 
-  pub specs_from-last : next.outcome ≡ Done → end ≡ length s → taken_with next.layout ≡ rest
+  pub specs_from-last : next.outcome ≡ Ok tt → end ≡ length s → taken_with next.layout ≡ rest
   unfolding specs_from
   specs_from-last done last = rw (parts_of-last dash s at end in-s is last, ← made, done)
 
-  pub specs_from-more : next.outcome ≡ Done → (end ≡ length s → ⊥) → rest
+  pub specs_from-more : next.outcome ≡ Ok tt → (end ≡ length s → ⊥) → rest
       ≡ specs_from next.layout (end + 1) (parts_of dash (drop (end + 1) s))
   unfolding specs_from
   specs_from-more done more =

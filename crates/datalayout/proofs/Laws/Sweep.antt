@@ -11,8 +11,10 @@ use mathlib.Core.Logic.{⊎_elim}
 use Prim.Native.Nat.{ℕ, ◌+◌, ◌-◌, ◌≤◌, ◌<◌, min}
 use native.Mathlib.Nat.{eq-or-lt_of_le}
 use native.Mathlib.Omega.{arith}
-use lib.ListN.{length, get_or, take, drop}
+use lib.ListN.{length, get_or, get_or-eq_default, take, drop}
 use borrow.Author.Tests.{lt-ltb, le-ltb}
+use Rattle.std.proofs.Common.{Ok, Err}
+use Rattle.std.proofs.lemmas.Bool.{cases_lt}
 use Rattle.layout.specs.declared.record.DataLayout.{DataLayout}
 use Rattle.layout.specs.Defaults.{default_layout}
 use Rattle.fields.specs.declared.numbers.Fault.{Fault}
@@ -20,9 +22,8 @@ use Rattle.fields.specs.Parts.{dash, parts_of, end_of}
 use Rattle.fields.proofs.Laws.Parts.{end_of-bound}
 use Rattle.spec.specs.Edition.{specs_of}
 use Rattle.spec.specs.Specs.{spec_in}
-use Rattle.datalayout.specs.declared.answer.Answer.TheVariants.{BadEncoding, Refused}
+use Rattle.datalayout.specs.declared.error.Error.TheVariants.{BadEncoding, Refused}
 use Rattle.datalayout.specs.declared.apply.Applied.{Applied}
-use Rattle.datalayout.specs.declared.apply.Outcome.TheVariants.{Done, Refused as Fails}
 use Rattle.datalayout.specs.Apply.{applied}
 use Rattle.datalayout.specs.Strings.{ascii_up_to, taken_with, refused_with, specs_from, mapped}
 use Rattle.datalayout.proofs.Laws.Ascii.{ascii_up_to-le, ascii_up_to-before, ascii_up_to-at, ascii_up_to-past}
@@ -54,6 +55,10 @@ mapped-ascii s h = rw (le-ltb (ascii_up_to s) (length s) h)
 pub Going-first : (s : List ℕ) → Going s default_layout 0
 Going-first s = record { ascii = omega arith; same = refl }
 
+inside : (s : List ℕ) (i : ℕ) → 128 ≤ get_or s i 0 → i < length s
+inside s i h =
+    ⊎_elim (λ lt. lt) (λ past. let e : get_or s i 0 ≡ 0 = get_or-eq_default s 0 past in absurd (omega arith)) (cases_lt i (length s))
+
 module _ {s : List ℕ} {layout : DataLayout} {at end : ℕ} (stop : Stopped s layout at end) where
   passed : end ≤ ascii_up_to s
   passed = omega (arith, ascii_up_to-past s at stop.going.ascii)
@@ -61,10 +66,10 @@ module _ {s : List ℕ} {layout : DataLayout} {at end : ℕ} (stop : Stopped s l
   pub Stopped-within : (at ≤ end) × (end ≤ length s)
   Stopped-within = (omega arith, omega (arith, passed, ascii_up_to-le s))
 
-  pub Stopped-encoded : end < length s → 128 ≤ get_or s end 0 → refused_with (BadEncoding end) ≡ mapped s
-  Stopped-encoded lt h =
+  pub Stopped-encoded : 128 ≤ get_or s end 0 → refused_with (BadEncoding end) ≡ mapped s
+  Stopped-encoded h =
       ⊎_elim
-      (λ e. mapped-encoded s end e lt)
+      (λ e. mapped-encoded s end e (inside s end h))
       (λ less. absurd (omega (arith, ascii_up_to-before s end less)))
       (eq-or-lt_of_le {n = end} {m = ascii_up_to s} passed)
 
@@ -90,21 +95,20 @@ module _ {s : List ℕ} {layout : DataLayout} {at end : ℕ} {next : Applied} (e
       (eq-or-lt_of_le {n = end} {m = end_of dash s at} (omega arith))
 
   -- the rest of the string is ASCII too
-  pub Ended-refused : (fault : Fault) → next.outcome ≡ Fails fault → length s ≤ end + ascii_up_to (drop end s)
-      → (unchanged : DataLayout) → unchanged ≡ default_layout → record { answer = Refused fault at; layout = unchanged } ≡ mapped s
-  Ended-refused fault refused h unchanged default =
-      rw default
-      (specs_from-refused layout s at end in-s at-dash next ended.made fault refused
+  pub Ended-refused : (fault : Fault) → next.outcome ≡ Err fault → length s ≤ end + ascii_up_to (drop end s)
+      → refused_with (Refused fault at) ≡ mapped s
+  Ended-refused fault refused h =
+      specs_from-refused layout s at end in-s at-dash next ended.made fault refused
       ∙ sym ended.stopped.going.same
-      ∙ mapped-ascii s (omega (arith, ascii_up_to-past s end (passed ended.stopped))))
+      ∙ mapped-ascii s (omega (arith, ascii_up_to-past s end (passed ended.stopped)))
 
-  pub Ended-done : next.outcome ≡ Done → end ≡ length s → taken_with next.layout ≡ mapped s
+  pub Ended-done : next.outcome ≡ Ok tt → end ≡ length s → taken_with next.layout ≡ mapped s
   Ended-done done last =
       specs_from-last layout s at end in-s at-dash next ended.made done last
       ∙ sym ended.stopped.going.same
       ∙ mapped-ascii s (omega (arith, passed ended.stopped))
 
-  pub Ended-more : next.outcome ≡ Done → (end ≡ length s → ⊥) → Going s next.layout (end + 1)
+  pub Ended-more : next.outcome ≡ Ok tt → (end ≡ length s → ⊥) → Going s next.layout (end + 1)
   Ended-more done more =
       record {
         ascii =

@@ -13,7 +13,7 @@ use Rattle.table.specs.Buffers.{over}
 use Rattle.table.proofs.Laws.Buffers.{length_over, over-fits}
 use Rattle.wire.specs.Words.{is_stream, words_in}
 use Rattle.wire.proofs.Laws.Words.{length-words_in}
-use Rattle.ferry.specs.declared.Answer.{Answer}
+use Rattle.ferry.specs.Answers.{Answer}
 use Rattle.ferry.specs.Reader.{lent_by, whole_of}
 use Rattle.ferry.specs.Program.{answer_to}
 

@@ -1,37 +1,44 @@
 -- Laws of specs/Parts.antt.
---     up_to-..             one for each way through a turn of the search for the end of a part
+--     up_to-..             the bytes before the first separator, by the first byte
 --     end_of-bound         a part ends in the string
 --     end_of-next          and so does the separator behind it, where it is not the last
 --     parts_of-last        the part that starts at `from` is the last
 --     parts_of-more        another one stands behind it
 --     parts_of-head        it is the first of the parts from there on
+--     parts_of-first       another one stands behind the first of the string
+--     parts_of-split       the first part and the parts of what is left, as `first_part` hands them on
 -- Assumes nothing.
-use mathlib.Core.Path.{◌≡◌, refl}
+use mathlib.Core.Path.{◌≡◌, refl, sym}
 use mathlib.Core.Bool.{Bool, true, false, cond}
 use mathlib.Core.List.{List, [], ◌∷◌}
-use Prim.Native.Nat.{ℕ, suc, ◌+◌, ◌-◌, ◌≤◌, ◌<◌}
-use mathlib.Core.Logic.{⊎_elim}
+use Prim.Native.Nat.{ℕ, suc, ◌+◌, ◌-◌, ◌≤◌, ◌<◌, zero-le}
+use mathlib.Core.Logic.{◌⊎◌, ⊎_elim}
 use native.Mathlib.Nat.{eq-or-lt_of_le}
 use native.Mathlib.Numerals.{add-one}
 use native.Mathlib.Omega.{arith}
 use lib.Dec.{eqb}
-use lib.ListN.{length, get_or, take, drop, length-drop, drop_of_length-le}
-use lib.Seq.{drop-cons, drop-drop, take-length}
+use lib.ListN.{length, take, drop, length-drop}
+use lib.Seq.{drop-drop, take-length}
 use borrow.Author.Tests.{eq-eqb, ne_eqb}
-use Rattle.fields.specs.Parts.{before, parts_of, up_to, end_of}
+use denote.Bor.{Bor}
+use Rattle.std.specs.Prelude.{Option, Some, None, option_copied}
+use Rattle.std.specs.List.{slice_range}
+use Rattle.std.specs.Option.{MatchOption}
+use Rattle.fields.specs.Parts.{before, parts_of, parts_left, up_to, end_of}
 
-module _ (b : ℕ) (s : List ℕ) (i : ℕ) where
-  pub up_to-hit : i < length s → get_or s i 0 ≡ b → up_to b (drop i s) ≡ 0
-  unfolding up_to
-  up_to-hit lt h = rw (drop-cons s i 0, eq-eqb _ _ h)
+-- by the first byte
+pub up_to-none : (b : ℕ) → up_to b [] ≡ 0
+unfolding up_to
+up_to-none b = refl
 
-  pub up_to-miss : i < length s → (get_or s i 0 ≡ b → ⊥) → up_to b (drop i s) ≡ suc (up_to b (drop (i + 1) s))
+module _ (b byte : ℕ) (bytes : List ℕ) where
+  pub up_to-here : byte ≡ b → up_to b (byte ∷ bytes) ≡ 0
   unfolding up_to
-  up_to-miss lt h = rw (drop-cons s i 0, ne_eqb _ _ h, add-one)
+  up_to-here h = rw (eq-eqb _ _ h)
 
-  pub up_to-end : length s ≤ i → up_to b (drop i s) ≡ 0
+  pub up_to-further : (byte ≡ b → ⊥) → up_to b (byte ∷ bytes) ≡ up_to b bytes + 1
   unfolding up_to
-  up_to-end h = rw (drop_of_length-le s h)
+  up_to-further h = rw (ne_eqb _ _ h, add-one)
 
 up_to-le : (b : ℕ) (s : List ℕ) → up_to b s ≤ length s
 unfolding up_to
@@ -69,6 +76,7 @@ module _ (b : ℕ) (s : List ℕ) (from end : ℕ) (in-s : from ≤ length s) (i
   pub end_of-bound : (from ≤ end) × (end ≤ length s)
   end_of-bound = (omega arith, omega (arith, up_to-le b (drop from s), length-drop from s))
 
+  -- Named in docs/PROVING.md.
   pub end_of-next : (end ≡ length s → ⊥) → end + 1 ≤ length s
   end_of-next more = omega (arith, end_of-bound)
 
@@ -93,3 +101,22 @@ module _ (b : ℕ) (s : List ℕ) (from end : ℕ) (in-s : from ≤ length s) (i
       (λ last. rw (parts_of-last last) (h []))
       (λ lt. rw (parts_of-more (λ last. omega arith)) (h (parts_of b (drop (end + 1) s))))
       (eq-or-lt_of_le {n = end} {m = length s} end_of-bound.1)
+
+-- the same of the part at the start of s
+pub parts_of-first : (b : ℕ) (s : List ℕ) (end : ℕ) → end ≡ end_of b s 0 → (end ≡ length s → ⊥) → parts_of b s ≡ take end s ∷ parts_of b (drop (end + 1) s)
+parts_of-first b s end is more = let whole : end - 0 ≡ end = omega arith in rw whole at (parts_of-more b s 0 end zero-le is more)
+
+pub range-drop : (s : List ℕ) (from : ℕ) → slice_range s from (length s) ≡ drop from s
+range-drop s from = let whole : length s - from ≡ length (drop from s) = sym (length-drop from s) in rw (whole, take-length)
+
+-- the first part, and what `get` finds behind its end
+pub parts_of-split : (b : ℕ) (s : List ℕ) (end : ℕ) → end ≡ end_of b s 0 → (rest : Option (Bor (List ℕ)))
+    → MatchOption rest ((length s < end + 1) ⊎ (length s < length s))
+    (λ x. (end + 1 ≤ length s) × (length s ≤ length s) × (x.now ≡ slice_range s (end + 1) (length s)) × (length x.now + (end + 1) ≡ length s))
+    → parts_of b s ≡ take end s ∷ parts_left b (option_copied rest)
+parts_of-split b s end is None h =
+    let bound = end_of-bound b s 0 end zero-le is in
+    let last : end ≡ length s = ⊎_elim (λ lt. omega arith) (λ lt. omega arith) h in
+    let whole : end - 0 ≡ end = omega arith in
+    rw whole at (parts_of-last b s 0 end zero-le is last)
+parts_of-split b s end is (Some x) h = rw (h.2, range-drop s (end + 1)) (parts_of-first b s end is (λ last. omega arith))

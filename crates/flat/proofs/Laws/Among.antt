@@ -1,24 +1,35 @@
 -- Laws of rows among other words (specs/Held.antt): where they lie, and the three ways through `put_row`.
 -- Assumes nothing.
 use mathlib.Core.Path.{◌≡◌, refl, sym, ap, ◌∙◌}
-use mathlib.Core.Bool.{Bool, cond}
+use mathlib.Core.Bool.{Bool}
 use mathlib.Core.List.{List, [], ◌∷◌, ◌++◌, append_assoc}
-use mathlib.Core.Logic.{⊎_elim}
 use Prim.Native.Nat.{ℕ, zero, suc, ◌+◌, ◌-◌, ◌*◌, ◌≤◌, ◌<◌}
-use native.Mathlib.Nat.{eq-or-lt_of_le, mul-le-mul_right, lt_of_mul-lt-mul_right}
+use native.Mathlib.Nat.{mul-le-mul_right, mul-div_cancel}
 use native.Mathlib.Omega.{arith}
 use lib.ListN.{length, get_or, take, drop, set, length-append, length-set}
 use lib.Seq.{length-take-le, split_at, set_split, take_at, drop_at}
+use Rattle.std.proofs.Common.{Ok, Err}
+use Rattle.std.specs.Simd.{first_chunks}
+use Rattle.std.proofs.Common.{Option, Some, None, position, ◌/◌}
 use Rattle.table.specs.Buffers.{zeros, padded}
 use Rattle.layout.specs.Rows.{placed, place_of}
-use Rattle.layout.proofs.Laws.Rows.{place_of-le, placed-appended, placed-replaced}
+use Rattle.layout.proofs.Laws.Rows.{place_of-found, place_of-missed, placed-appended, placed-replaced}
 use Rattle.fields.specs.declared.numbers.Fault.TheVariants.{ListFull}
-use Rattle.datalayout.specs.declared.apply.Outcome.TheVariants.{Done, Refused}
 use Rattle.flat.specs.Words.{run_of}
-use Rattle.flat.specs.Moves.{Replaces, Whole, EachWide, same_key}
+use Rattle.flat.specs.Moves.{Replaces, EachWide, same_key}
 use Rattle.flat.specs.Held.{among, Rows, PutAmong}
 use Rattle.flat.proofs.Laws.Padded.{padded-getD, padded-set}
-use Rattle.flat.proofs.Laws.Search.{joined, length-joined}
+
+abbrev pub joined : List (List ℕ) → List ℕ
+joined rows = run_of (λ (row : List ℕ). row) rows
+
+length-joined : (wide : ℕ) (rows : List (List ℕ)) → EachWide wide rows → length (joined rows) ≡ length rows * wide
+unfolding run_of
+length-joined wide [] each = omega arith
+length-joined wide (row ∷ rows) each =
+    let later = length-joined wide rows each.1 in
+    let first = each.0 in
+    length-append row (joined rows) ∙ omega arith
 
 joined-append : (f g : List (List ℕ)) → joined (f ++ g) ≡ joined f ++ joined g
 unfolding run_of
@@ -36,12 +47,13 @@ cut-last : (x y row : List ℕ) (f : List (List ℕ)) (n : ℕ) → n ≡ length
 unfolding run_of
 cut-last x y row f n e = cut x y row f [] n e
 
--- the key is the first two words
-pub place-key : (both : Bool) (row : List ℕ) (rows : List (List ℕ))
-    → place_of (same_key both) (get_or row 0 0 ∷ get_or row 1 0 ∷ []) rows ≡ place_of (same_key both) row rows
-unfolding place_of
-place-key both row [] = refl
-place-key both row (r ∷ rows) = ap (λ (n : ℕ). cond (same_key both row r) 0 (suc n)) (place-key both row rows)
+-- rows of one length are the chunks of their words
+chunks : (wide : ℕ) (rows : List (List ℕ)) → EachWide wide rows → first_chunks wide (length rows) (joined rows) ≡ rows
+unfolding run_of
+chunks wide [] each = refl
+chunks wide (row ∷ rows) each =
+    rw (take_at row (joined rows) wide each.0, drop_at row (joined rows) wide each.0)
+    (ap (λ (l : List (List ℕ)). row ∷ l) (chunks wide rows each.1))
 
 module _ {x y out : List ℕ} {rows : List (List ℕ)} {from behind end wide most : ℕ} (are : Rows x rows y out from behind end wide most) where
   pub Rows-bounds : (from + 1 ≤ behind) × (behind ≤ end) × (end ≤ length out) × (length rows < most → end + wide ≤ length out)
@@ -71,8 +83,15 @@ module _ {x y out : List ℕ} {rows : List (List ℕ)} {from behind end wide mos
       ap (drop (from + 1)) parts ∙ drop_at (x ++ length rows ∷ []) (joined rows ++ (y ++ rest)) (from + 1) front in
       ap (take (behind - (from + 1))) dropped ∙ take_at (joined rows) (y ++ rest) (behind - (from + 1)) long
 
-  pub Rows-whole : Whole wide (take (behind - (from + 1)) (drop (from + 1) out))
-  Rows-whole = record { count = length rows; long = ap length Rows-slice ∙ length-joined wide rows are.each }
+  -- so a search among the chunks is one among the rows
+  pub Rows-found : (p : List ℕ → Bool) (found : Option ℕ) (w : ℕ) → wide ≡ w → 1 ≤ w
+      → found ≡ position p (first_chunks w (length (take (behind - (from + 1)) (drop (from + 1) out)) / w)
+      (take (behind - (from + 1)) (drop (from + 1) out)))
+      → position p rows ≡ found
+  Rows-found p found w e some is =
+      let count : length (joined rows) / wide ≡ length rows =
+      rw (length-joined wide rows are.each) (mul-div_cancel (length rows) (omega arith)) in
+      sym (is ∙ rw (← e, Rows-slice, count, chunks wide rows are.each))
 
   long-among : length (among x rows y) ≡ end
   long-among = simp length-append (omega (arith, length-joined wide rows are.each, are.starts, are.stops, are.ends))
@@ -87,28 +106,30 @@ each_at wide i [] h lt = absurd (omega arith)
 each_at wide zero (row ∷ rows) h lt = h.0
 each_at wide (suc i) (row ∷ rows) h lt = each_at wide i rows h.1 (omega arith)
 
--- the three ways through `put_row`, with the row at its place
+-- the three ways through `put_row`
 module _ {x y out : List ℕ} {rows : List (List ℕ)} {from behind end most : ℕ} (row : List ℕ) (both : Bool)
-    (are : Rows x rows y out from behind end (length row) most) (at : ℕ)
-    (is : at ≡ from + 1 + place_of (same_key both) row rows * length row) where
+    (are : Rows x rows y out from behind end (length row) most) where
   abbrev place : ℕ
   place = place_of (same_key both) row rows
 
   abbrev after-rows : List (List ℕ)
   after-rows = placed (same_key both) row rows
 
-  pub at-within : at ≤ behind
-  at-within = let h = mul-le-mul_right (length row) (place_of-le (same_key both) row rows) in omega (arith, are.stops)
+  module _ (i w : ℕ) (e : length row ≡ w) (hit : position (same_key both row) rows ≡ Some i) where
+    abbrev at : ℕ
+    at = from + 1 + i * w
 
-  module _ (inside : at < behind) where
     in_rows : place < length rows
-    in_rows = lt_of_mul-lt-mul_right (length row) (omega (arith, are.stops))
+    in_rows = let found = place_of-found (same_key both) row rows i hit in omega (arith, found)
 
-    pub at-whole : at + length row ≤ behind
+    is : at ≡ from + 1 + place * length row
+    is = rw (← e) (ap (λ (n : ℕ). from + 1 + n * length row) (place_of-found (same_key both) row rows i hit).0)
+
+    pub at-whole : at + w ≤ behind
     at-whole =
         let h = mul-le-mul_right {m = suc place} (length row) in_rows in
         let step : suc place * length row ≡ place * length row + length row = omega arith in
-        omega (arith, are.stops)
+        omega (arith, are.stops, is)
 
     abbrev front : List (List ℕ)
     front = take place rows
@@ -116,7 +137,7 @@ module _ {x y out : List ℕ} {rows : List (List ℕ)} {from behind end most : �
     abbrev rest : List (List ℕ)
     rest = drop (suc place) rows
 
-    pub replaced : (after : List ℕ) → Replaces row at (at + length row) end out after → PutAmong x after-rows y out most Done after
+    pub replaced : (after : List ℕ) → Replaces row at (at + w) end out after → PutAmong x after-rows y out most (Ok tt) after
     replaced after moves =
         let old = get_or rows place [] in
         let a = x ++ length rows ∷ joined front in
@@ -131,7 +152,7 @@ module _ {x y out : List ℕ} {rows : List (List ℕ)} {from behind end most : �
         length-joined (length row) front (each_take (length row) place rows are.each)
         ∙ ap (λ (n : ℕ). n * length row) (length-take-le place rows (omega (arith, in_rows))) in
         let long-a : at ≡ length a = is ∙ simp length-append (omega (arith, long-front, are.starts)) in
-        let long-b : at + length row ≡ length (a ++ old) =
+        let long-b : at + w ≡ length (a ++ old) =
         simp length-append (omega (arith, long-a, each_at (length row) place rows are.each in_rows, simp length-append at long-a)) in
         let content = moves a old c (are.is ∙ ap (padded (length out)) parts) long-a long-b (sym (long-among are) ∙ ap length parts) in
         record {
@@ -143,29 +164,19 @@ module _ {x y out : List ℕ} {rows : List (List ℕ)} {from behind end most : �
           full = λ lt. absurd (omega (arith, ap length after_is, same, are.few));
         }
 
-  module _ (behind-all : behind ≤ at) (wide : 1 ≤ length row) where
-    at-end : place ≡ length rows
-    at-end =
-        ⊎_elim
-        (λ e. e)
-        (λ lt.
-        let h = mul-le-mul_right {m = suc place} (length row) lt in
-        let step : suc place * length row ≡ place * length row + length row = omega arith in
-        absurd (omega (arith, are.stops)))
-        (eq-or-lt_of_le {n = place} {m = length rows} (place_of-le (same_key both) row rows))
-
+  module _ (miss : position (same_key both row) rows ≡ None) where
     after_is : after-rows ≡ rows ++ row ∷ []
-    after_is = placed-appended (same_key both) row rows at-end
+    after_is = placed-appended (same_key both) row rows (place_of-missed (same_key both) row rows miss)
 
     one_more : length after-rows ≡ length rows + 1
     one_more = ap length after_is ∙ length-append rows (row ∷ [])
 
-    pub full : most ≤ get_or out from 0 → (after : List ℕ) → PutAmong x after-rows y out most (Refused ListFull) after
+    pub full : most ≤ get_or out from 0 → (after : List ℕ) → PutAmong x after-rows y out most (Err ListFull) after
     full le after =
         record { taken = λ few. absurd (omega (arith, one_more, Rows-count are)); full = λ lt. refl }
 
     pub appended : get_or out from 0 < most → (mid after : List ℕ) → mid ≡ set out from (get_or out from 0 + 1)
-        → Replaces row behind behind end mid after → PutAmong x after-rows y out most Done after
+        → Replaces row behind behind end mid after → PutAmong x after-rows y out most (Ok tt) after
     appended lt mid after is-mid moves =
         let n = length rows + 1 in
         let a = x ++ n ∷ joined rows in

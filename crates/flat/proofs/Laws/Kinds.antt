@@ -8,13 +8,14 @@ use mathlib.Core.List.{List, [], ◌++◌, map}
 use Prim.Native.Nat.{ℕ}
 use native.Mathlib.Omega.{arith}
 use lib.ListN.{length, take, length-append}
+use Rattle.std.proofs.Common.{Result}
+use Rattle.fields.specs.declared.numbers.Fault.{Fault}
 use Rattle.table.specs.Buffers.{padded}
 use Rattle.layout.specs.declared.types.TypeAlignSpec.{TypeAlignSpec}
 use Rattle.layout.specs.declared.pointers.PointerAlignSpec.{PointerAlignSpec}
 use Rattle.layout.specs.declared.record.DataLayout.{DataLayout}
 use Rattle.layout.specs.Types.{same_type, updated_types}
 use Rattle.layout.specs.Pointers.{same_space, updated_pointers}
-use Rattle.datalayout.specs.declared.apply.Outcome.{Outcome}
 use Rattle.datalayout.specs.Apply.{types_put, type_applied, pointers_put, pointer_applied}
 use Rattle.datalayout.specs.Promises.{Sound}
 use Rattle.flat.specs.declared.lists.Bounds.{Bounds}
@@ -85,7 +86,7 @@ module _ (out v : List ℕ) (b : Bounds) (k : Kept out) (is : (l : DataLayout) �
       })
 
 -- and what its answer is to them
-module _ (l : DataLayout) (b : Bounds) (v before after : List ℕ) (r : Outcome) (s : Sound l) (h : Held l before)
+module _ (l : DataLayout) (b : Bounds) (v before after : List ℕ) (r : Result (Unit {0}) Fault) (s : Sound l) (h : Held l before)
     (is_b : b ≡ starts_of l) (long : length after ≡ length before) where
   pub type-did : (row : TypeAlignSpec) → v ≡ type_words row → RowPut before b.types b.pointers b.end v true 64 r after
       → Did (type_applied l row) r after

@@ -6,12 +6,13 @@
 -- Assumes nothing.
 use mathlib.Core.Path.{◌≡◌, refl, sym, ap, subst, ◌∙◌}
 use mathlib.Core.List.{List, [], ◌∷◌, ◌++◌, append-nil, append_assoc}
-use Prim.Native.Nat.{ℕ, zero, suc, ◌+◌, ◌*◌, ◌≤◌, ◌<◌, min}
+use Prim.Native.Nat.{ℕ, ◌+◌, ◌*◌, ◌≤◌, ◌<◌, min}
 use native.Mathlib.Nat.{add_comm, zero-mul, suc-mul}
 use native.Mathlib.Numerals.{add-one}
 use native.Mathlib.Omega.{arith}
-use lib.ListN.{length, get_or, take, length-append, length-take}
-use lib.Seq.{take-suc, take-nil, length-take-le}
+use lib.ListN.{length, get_or, take, length-append}
+use lib.Seq.{take-suc, take-nil, take_all, length-take-le}
+use Rattle.std.proofs.lemmas.List.{take_min}
 use Rattle.table.specs.Buffers.{over}
 use Rattle.flat.specs.Words.{run_of}
 use Rattle.flat.specs.Puts.{Behind, Part, Puts}
@@ -29,31 +30,18 @@ over_none l = rw (take-nil (length l))
 pub Behind-first : (ws l₀ l₁ : List ℕ) → Behind ws 0 l₀ l₁ → l₁ ≡ over ws l₀
 Behind-first ws l₀ l₁ h = h [] l₀ (over_none l₀) refl
 
--- a count that is kept to the room takes what the count takes
-module _ {A : Type 0} where
-  take-length-take : (n : ℕ) (l : List A) → take (length (take n l)) l ≡ take n l
-  take-length-take zero l = refl
-  take-length-take (suc n) [] = refl
-  take-length-take (suc n) (x ∷ l) = ap (λ (m : List A). x ∷ m) (take-length-take n l)
-
-  length-kept : (n count : ℕ) (l : List A) → count ≡ min n (length l) → length (take n l) ≡ count
-  length-kept n count l h = length-take n l ∙ sym h
-
-  take-kept : (n count : ℕ) (l : List A) → count ≡ min n (length l) → take count l ≡ take n l
-  take-kept n count l h = rw (← (length-kept n count l h)) (take-length-take n l)
-
-pub Numbers-done : (items : List ℕ) (n count most at end : ℕ) (l₀ l₁ l₂ : List ℕ) → count ≡ min n (length items)
-    → end ≡ at + 1 + count → end ≤ at + most → Behind (count ∷ []) at l₀ l₁ → Behind (take count items) (at + 1) l₁ l₂
-    → Part (length (take n items) ∷ take n items) most at l₀ end l₂
-Numbers-done items n count most at end l₀ l₁ l₂ is-count is-end bound first second =
-    let e = length-kept n count items is-count in
-    record {
-      ends = omega (arith, e);
+-- the first n of a room, behind how many they are
+pub Numbers-done : (items : List ℕ) (n m most at end : ℕ) (l₀ l₁ l₂ : List ℕ) → m ≡ min n (length items)
+    → end ≡ at + 1 + length (take m items) → end ≤ at + most → Behind (length (take m items) ∷ []) at l₀ l₁
+    → Behind (take m items) (at + 1) l₁ l₂ → Part (length (take n items) ∷ take n items) most at l₀ end l₂
+Numbers-done items n m most at end l₀ l₁ l₂ clipped is-end bound first second =
+    let same : take m items ≡ take n items = rw clipped (take_min n items) in
+    rw (← same)
+    (record {
+      ends = omega arith;
       bounded = bound;
-      content =
-          rw (e, ← (take-kept n count items is-count))
-          (Behind-then (count ∷ []) (take count items) at (at + 1) l₀ l₁ l₂ first refl second);
-    }
+      content = Behind-then (length (take m items) ∷ []) (take m items) at (at + 1) l₀ l₁ l₂ first refl second;
+    })
 
 module _ {A : Type 0} (words : A → List ℕ) where
   run_of-snoc : (rows : List A) (row : A) → run_of words (rows ++ (row ∷ [])) ≡ run_of words rows ++ words row
@@ -73,10 +61,10 @@ module _ {A : Type 0} (words : A → List ℕ) where
     length-run_of (row ∷ rows) =
         rw (length-append (words row) (run_of words rows), each row, length-run_of rows, suc-mul) (add_comm wide (length rows * wide))
 
-    -- rows of the room, of which `count` are written, from `at` on
-    module _ (rows : List A) (count at : ℕ) (before : List ℕ) where
+    -- rows that are written one behind the other, from `at` on
+    module _ (rows : List A) (at : ℕ) (before : List ℕ) where
       pub record Filled (i : ℕ) (after : List ℕ) : Type 0 where
-        pub in_rows : i ≤ count
+        pub in_rows : i ≤ length rows
         pub long : length after ≡ length before
         pub content : Behind (run_of words (take i rows)) at before after
 
@@ -91,34 +79,28 @@ module _ {A : Type 0} (words : A → List ℕ) where
       length-laid : (i : ℕ) → i ≤ length rows → length (run_of words (take i rows)) ≡ i * wide
       length-laid i le = length-run_of (take i rows) ∙ ap (λ (k : ℕ). k * wide) (length-take-le i rows le)
 
-      pub Filled-more : (i m : ℕ) (d : A) (v l l' : List ℕ) → Filled i l → i < count → count ≤ length rows
-          → m ≡ at + i * wide → v ≡ words (get_or rows i d) → length l' ≡ length l → Behind v m l l' → Filled (i + 1) l'
-      Filled-more i m d v l l' h lt room is_m is-v long put =
+      pub Filled-more : (i m : ℕ) (d : A) (v l l' : List ℕ) → Filled i l → i < length rows → m ≡ at + i * wide
+          → v ≡ words (get_or rows i d) → length l' ≡ length l → Behind v m l l' → Filled (i + 1) l'
+      Filled-more i m d v l l' h lt is_m is-v long put =
           let e = length-laid i (omega arith) in
           let is : m ≡ at + length (run_of words (take i rows)) = is_m ∙ rw e in
           record {
             in_rows = omega arith;
             long = long ∙ h.long;
             content =
-                rw (run_of-more rows i d (omega arith), ← is-v)
+                rw (run_of-more rows i d lt, ← is-v)
                 (Behind-then (run_of words (take i rows)) v at m before l l' h.content is put);
           }
 
-      -- the count stands before them
-      pub Filled-done : (i n from end most : ℕ) (l₀ l : List ℕ) → at ≡ from + 1 → Behind (count ∷ []) from l₀ before → Filled i l
-          → count ≤ i → count ≡ min n (length rows) → end ≡ at + count * wide → end ≤ from + most
-          → Part (length (take n rows) ∷ run_of words (take n rows)) most from l₀ end l
-      Filled-done i n from end most l₀ l is_at first h out is-count is-end bound =
-          let e = length-kept n count rows is-count in
-          let k : i ≡ count = omega (arith, h.in_rows) in
-          let same = take-kept n count rows is-count in
-          let laid : Behind (run_of words (take count rows)) at before l =
-          subst (λ (j : ℕ). Behind (run_of words (take j rows)) at before l) k h.content in
+      -- their count stands before them
+      pub Filled-done : (i from end most : ℕ) (l₀ l : List ℕ) → at ≡ from + 1 → Behind (length rows ∷ []) from l₀ before → Filled i l
+          → length rows ≤ i → end ≡ at + length rows * wide → end ≤ from + most → Part (length rows ∷ run_of words rows) most from l₀ end l
+      Filled-done i from end most l₀ l is_at first h out is-end bound =
+          let all : take i rows ≡ rows = take_all i rows out in
           record {
-            ends = is-end ∙ rw (← same, length-laid count (omega (arith, is-count))) (omega arith);
+            ends = is-end ∙ rw (length-run_of rows) (omega arith);
             bounded = bound;
-            content =
-                rw (e, ← same) (Behind-then (count ∷ []) (run_of words (take count rows)) from at l₀ before l first is_at laid);
+            content = Behind-then (length rows ∷ []) (run_of words rows) from at l₀ before l first is_at (rw all at h.content);
           }
 
 -- head, widths, spaces, type rows and pointer rows, with the buffer between them; the head's words came by value, as v

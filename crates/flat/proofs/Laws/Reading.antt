@@ -8,19 +8,17 @@ use mathlib.Core.List.{List}
 use Prim.Native.Nat.{ℕ, ◌+◌, ◌-◌, ◌≤◌, ◌<◌, min}
 use native.Mathlib.Omega.{arith}
 use lib.ListN.{length, get_or, take, drop}
+use Rattle.std.proofs.Common.{Result, Ok, Err}
 use Rattle.layout.specs.declared.record.DataLayout.{DataLayout}
 use Rattle.layout.specs.Defaults.{default_layout}
 use Rattle.fields.specs.declared.numbers.Fault.{Fault}
 use Rattle.fields.specs.Parts.{dash, end_of}
 use Rattle.spec.specs.Specs.{spec_in}
-use Rattle.datalayout.specs.declared.answer.Answer.TheVariants.{Taken, BadEncoding, Refused as Refuses}
-use Rattle.datalayout.specs.declared.apply.Outcome.{Outcome}
-use Rattle.datalayout.specs.declared.apply.Outcome.TheVariants.{Done, Refused}
+use Rattle.datalayout.specs.declared.error.Error.TheVariants.{BadEncoding, Refused as Refuses}
 use Rattle.datalayout.specs.declared.map.Mapped.{Mapped}
 use Rattle.datalayout.specs.Apply.{applied}
 use Rattle.datalayout.specs.Promises.{Sound}
 use Rattle.datalayout.specs.Strings.{ascii_up_to, taken_with, refused_with, mapped}
-use Rattle.datalayout.proofs.Laws.Ascii.{ascii_up_to-le-up_to}
 use Rattle.datalayout.proofs.Laws.Sound.{default-sound, after-sound}
 use Rattle.datalayout.proofs.Laws.Sweep.{Going, Going-first, Stopped, Stopped-within, Stopped-encoded, Stopped-encoded-later}
 use Rattle.datalayout.proofs.Laws.Sweep.{Ended, Ended-refused, Ended-done, Ended-more}
@@ -38,7 +36,7 @@ pub record Reading (s : List ℕ) (n : ℕ) (out : List ℕ) (at : ℕ) : Type 0
   pub held : Held layout out
   pub long : length out ≡ n
 
-pub record Turn (s : List ℕ) (n : ℕ) (out : List ℕ) (at end : ℕ) (outcome : Outcome) (mid : List ℕ) : Type 0 where
+pub record Turn (s : List ℕ) (n : ℕ) (out : List ℕ) (at end : ℕ) (outcome : Result (Unit {0}) Fault) (mid : List ℕ) : Type 0 where
   pub reading : Reading s n out at
   pub is : end ≡ min (end_of dash s at) (at + ascii_up_to (drop at s))
   pub byte : get_or s end 0 < 128
@@ -64,12 +62,12 @@ module _ {s out : List ℕ} {n at : ℕ} (reading : Reading s n out at) where
     pub Reading-within : (at ≤ end) × (end ≤ length s)
     Reading-within = Stopped-within stop
 
-    pub Reading-encoded : (before after : List ℕ) (r : Laid) → length before ≡ n → end < length s → 128 ≤ get_or s end 0
+    pub Reading-encoded : (before after : List ℕ) (r : Laid) → length before ≡ n → 128 ≤ get_or s end 0
         → Reads (refused_with (BadEncoding end)) out r after → Reads (mapped s) before r after
-    Reading-encoded before after r long lt byte h =
-        reads_as (refused_with (BadEncoding end)) (mapped s) out before after r (Stopped-encoded stop lt byte) (reading.long ∙ sym long) h
+    Reading-encoded before after r long byte h =
+        reads_as (refused_with (BadEncoding end)) (mapped s) out before after r (Stopped-encoded stop byte) (reading.long ∙ sym long) h
 
-module _ {s out mid : List ℕ} {n at end : ℕ} {outcome : Outcome} (turn : Turn s n out at end outcome mid) where
+module _ {s out mid : List ℕ} {n at end : ℕ} {outcome : Result (Unit {0}) Fault} (turn : Turn s n out at end outcome mid) where
   abbrev old : DataLayout
   old = turn.reading.layout
 
@@ -88,34 +86,31 @@ module _ {s out mid : List ℕ} {n at end : ℕ} {outcome : Outcome} (turn : Tur
   long-mid : length mid ≡ n
   long-mid = turn.kept ∙ turn.reading.long
 
+  -- Named in docs/TRACE.md.
   pub Turn-within : (at ≤ end) × (end ≤ length s)
   Turn-within = Stopped-within stopped
 
-  -- the search for a byte that is not ASCII goes on behind the spec
-  searched : (bad : ℕ) → bad ≡ min (end_of 128 s end) (end + ascii_up_to (drop end s)) → bad ≡ end + ascii_up_to (drop end s)
-  searched bad is = omega (arith, ascii_up_to-le-up_to 128 (drop end s) (omega arith))
-
   pub Turn-encoded : (bad : ℕ) (before after : List ℕ) (r : Laid) → length before ≡ n
-      → bad ≡ min (end_of 128 s end) (end + ascii_up_to (drop end s)) → bad < length s
+      → bad ≡ end + ascii_up_to (drop end s) → bad < length s
       → Reads (refused_with (BadEncoding bad)) mid r after → Reads (mapped s) before r after
   Turn-encoded bad before after r long is lt h =
-      reads_as (refused_with (BadEncoding bad)) (mapped s) mid before after r (Stopped-encoded-later stopped bad (searched bad is) lt)
+      reads_as (refused_with (BadEncoding bad)) (mapped s) mid before after r (Stopped-encoded-later stopped bad is lt)
       (long-mid ∙ sym long) h
 
-  pub Turn-refused : (fault : Fault) (bad : ℕ) (before after : List ℕ) (r : Laid) → length before ≡ n → outcome ≡ Refused fault
-      → bad ≡ min (end_of 128 s end) (end + ascii_up_to (drop end s)) → length s ≤ bad
+  pub Turn-refused : (fault : Fault) (bad : ℕ) (before after : List ℕ) (r : Laid) → length before ≡ n → outcome ≡ Err fault
+      → bad ≡ end + ascii_up_to (drop end s) → length s ≤ bad
       → Reads (refused_with (Refuses fault at)) mid r after → Reads (mapped s) before r after
   Turn-refused fault bad before after r long refused is le h =
-      let e = Ended-refused ended fault (sym turn.did.outcome_is ∙ refused) (omega (arith, searched bad is)) default_layout refl in
+      let e = Ended-refused ended fault (sym turn.did.outcome_is ∙ refused) (omega arith) in
       reads_as (refused_with (Refuses fault at)) (mapped s) mid before after r e (long-mid ∙ sym long) h
 
-  module _ (done : outcome ≡ Done) where
+  module _ (done : outcome ≡ Ok tt) where
     sound : Sound new
     sound = after-sound old turn.reading.sound spec
 
     pub Turn-done : (b : Bounds) (before : List ℕ) → length before ≡ n → end ≡ length s
         → ((l : DataLayout) → Sound l → Held l mid → b ≡ starts_of l)
-        → Reads (mapped s) before (record { answer = Taken; words = b.end }) mid
+        → Reads (mapped s) before (record { answer = Ok tt; words = b.end }) mid
     unfolding starts_of
     Turn-done b before long last starts =
         let held = turn.did.done done in

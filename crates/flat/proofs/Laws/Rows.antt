@@ -14,14 +14,14 @@ use lib.ListN.{length, take, drop, length-append, length-set, length-map}
 use lib.Seq.{length-take-le, take-append_seam}
 use borrow.Author.Tests.{leb-true, leb-false}
 use Rattle.laws.proofs.Conds.{by-test}
+use Rattle.std.proofs.Common.{Result, Err}
+use Rattle.fields.specs.declared.numbers.Fault.{Fault}
 use Rattle.table.specs.Buffers.{padded}
 use Rattle.layout.specs.declared.record.DataLayout.{DataLayout}
 use Rattle.layout.specs.Rows.{placed, place_of, rows_after, count_after, fits}
 use Rattle.layout.proofs.Laws.Rows.{place_of-le, placed-appended, placed-replaced}
 use Rattle.fields.specs.declared.numbers.Fault.TheVariants.{ListFull}
 use Rattle.datalayout.specs.declared.apply.Applied.{Applied}
-use Rattle.datalayout.specs.declared.apply.Outcome.{Outcome}
-use Rattle.datalayout.specs.declared.apply.Outcome.TheVariants.{Refused}
 use Rattle.datalayout.specs.Apply.{done_with, refused_by}
 use Rattle.flat.specs.Words.{run_of, layout_words}
 use Rattle.flat.specs.Puts.{max_words}
@@ -93,7 +93,7 @@ module _ {A : Type 0} (words : A → List ℕ) where
         go true e = refl
         go false e = ap (λ (ws : List (List ℕ)). words row ∷ ws) e
 
-    module _ (x y before after : List ℕ) (n limit : ℕ) (room : List A) (r : Outcome)
+    module _ (x y before after : List ℕ) (n limit : ℕ) (room : List A) (r : Result (Unit {0}) Fault)
         (put : PutAmong x (placed (same_key both) (words new) (map words (take n room))) y before limit r after) where
       abbrev rows : List A
       rows = placed same new (take n room)
@@ -105,7 +105,7 @@ module _ {A : Type 0} (words : A → List ℕ) where
       unfolding fits
       Did-full l e =
           let lt = leb-false (length rows) limit e in
-          let full : r ≡ Refused ListFull = put.full (omega (arith, same_count)) in
+          let full : r ≡ Err ListFull = put.full (omega (arith, same_count)) in
           record { outcome_is = full; done = λ d. let z : ◌≡◌ {A = ℕ} 0 1 = cc in absurd (omega arith) }
 
       -- l has the rows of the room after the update, between the same words

@@ -8,10 +8,11 @@ use Prim.Native.Nat.{ℕ, ◌+◌, ◌-◌, ◌≤◌}
 use native.Mathlib.Omega.{arith}
 use lib.ListN.{length, take, drop, length-append, length-drop, replicate-append-replicate}
 use lib.Seq.{length-take-le, drop-append_seam, drop-append-add, drop-drop, drop_at, take-append_seam, take-append-le, take_at, take-take}
+use Rattle.std.specs.List.{copy_within}
 use Rattle.laws.proofs.Rests.{rest_part, rest-none}
 use Rattle.table.specs.Buffers.{over, zeros, padded}
 use Rattle.table.proofs.Laws.Buffers.{drop-zeros, over-fits}
-use Rattle.flat.specs.Moves.{moved, Shifts, Replaces}
+use Rattle.flat.specs.Moves.{Shifts, Replaces}
 
 -- a, then c, then zeros; c is to start at `to`
 module _ (from end to : ℕ) (l a c : List ℕ) (is : l ≡ padded (length l) (a ++ c)) (is-from : from ≡ length a)
@@ -34,13 +35,12 @@ module _ (from end to : ℕ) (l a c : List ℕ) (is : l ≡ padded (length l) (a
       ap (λ (m : List ℕ). drop (end + k) m) is
       ∙ rw (is-end, drop-append-add (a ++ c) (zeros (length l - length (a ++ c))) k, drop-zeros, n)
 
-  carried : moved from (end - from) to l ≡ take to l ++ (c ++ drop (to + length c) l)
-  unfolding moved
+  carried : copy_within l from end to ≡ take to l ++ (c ++ drop (to + length c) l)
   carried =
       let n : end - from ≡ length c = omega (arith, ends) in
       let e : take (length c) (drop from l) ≡ c =
       rw (is-from) (ap (λ (m : List ℕ). take (length c) (drop (length a) m)) parts ∙ rw (drop-append_seam, take-append_seam)) in
-      rw (n, e)
+      rw (n, e) (append_assoc (take to l) c (drop (to + length c) l))
 
   long-front : length (take to l ++ c) ≡ to + length c
   long-front = length-append (take to l) c ∙ rw (length-take-le to l (omega arith))
@@ -54,17 +54,18 @@ module _ (from end to : ℕ) (l a c : List ℕ) (is : l ≡ padded (length l) (a
       let front : take to l ≡ a = rw (← e, is-from) (ap (λ (m : List ℕ). take (length a) m) parts ∙ take-append_seam a (c ++ pad)) in
       rw front is
 
-  pub Shifts-up : (m : List ℕ) (t : ℕ) → from ≤ to → t ≡ to → m ≡ moved from (end - from) t l
-      → m ≡ padded (length l) (take to l ++ c)
-  Shifts-up m t le is-t h =
+  -- up, or not at all
+  pub Shifts-up : (m : List ℕ) → from ≤ to → m ≡ copy_within l from end to → m ≡ padded (length l) (take to l ++ c)
+  Shifts-up m le h =
       let e : end + (to - from) ≡ to + length c = omega (arith, ends) in
       let zero-words = rw e at (behind (to - from)) in
-      padding m ((rw is-t at h) ∙ carried ∙ rw (zero-words) (sym (append_assoc (take to l) c (zeros (length l - (to + length c))))))
+      padding m (h ∙ carried ∙ rw (zero-words) (sym (append_assoc (take to l) c (zeros (length l - (to + length c))))))
 
-  cleared : (m last : List ℕ) (freed : ℕ) → to ≤ from → freed ≡ to + (end - from) → m ≡ moved from (end - from) to l
+  -- down, where the words from `freed` on are cleared
+  pub Shifts-down : (m last : List ℕ) (freed : ℕ) → to ≤ from → freed ≡ to + (end - from) → m ≡ copy_within l from end to
       → last ≡ zeros (length (take (end - freed) (drop freed m)))
       → take freed m ++ (last ++ drop (end - freed) (drop freed m)) ≡ padded (length l) (take to l ++ c)
-  cleared m last freed le is-freed h is_last =
+  Shifts-down m last freed le is-freed h is_last =
       let n : to + length c ≡ freed = omega (arith, ends) in
       let two : m ≡ (take to l ++ c) ++ drop freed l =
       h ∙ carried ∙ rw n (sym (append_assoc (take to l) c (drop freed l))) in
@@ -86,13 +87,6 @@ module _ (from end to : ℕ) (l a c : List ℕ) (is : l ≡ padded (length l) (a
         replicate-append-replicate,
         all,
       ))
-
-  pub Shifts-down : (m last : List ℕ) (by : ℕ) → to ≤ from → by ≡ from - to → m ≡ moved from (end - from) (from - by) l
-      → last ≡ zeros (length (take (end - (end - by)) (drop (end - by) m)))
-      → take (end - by) m ++ (last ++ drop (end - (end - by)) (drop (end - by) m)) ≡ padded (length l) (take to l ++ c)
-  Shifts-down m last by le is-by h is_last =
-      let t : from - by ≡ to = omega arith in
-      cleared m last (end - by) le (omega (arith, ends)) (rw t at h) is_last
 
 -- src laid over what stands from `at` on, behind which c starts
 pub Replaces-done : (at behind end : ℕ) (src l m last : List ℕ) → at + length src + (end - behind) ≤ length l

@@ -16,7 +16,8 @@ use Rattle.table.specs.Buffers.{over, zeros}
 use Rattle.table.proofs.Laws.Buffers.{length-zeros, take-zeros, length_over}
 use Rattle.layout.specs.declared.record.DataLayout.{DataLayout}
 use Rattle.layout.specs.Defaults.{default_layout}
-use Rattle.datalayout.specs.declared.answer.Answer.{Answer}
+use Rattle.std.proofs.Common.{Err}
+use Rattle.datalayout.specs.declared.error.Error.{Error}
 use Rattle.datalayout.specs.declared.map.Mapped.{Mapped}
 use Rattle.datalayout.specs.Promises.{Sound}
 use Rattle.datalayout.specs.Strings.{refused_with}
@@ -69,10 +70,10 @@ Held-puts l out s h n is-n =
       content = h.is ∙ sym (over-zeros-padded (length out) (layout_words l) (omega (arith, fit, h.room))) ∙ rw is-n;
     }
 
-pub refused-reads : (answer : Answer) (before after : List ℕ) → length before ≡ length after → Held default_layout after
-    → Reads (refused_with answer) before (record { answer = answer; words = 66 }) after
+pub refused-reads : (error : Error) (before after : List ℕ) → length before ≡ length after → Held default_layout after
+    → Reads (refused_with error) before (record { answer = Err error; words = 66 }) after
 unfolding layout_words run_of
-refused-reads answer before after long h =
+refused-reads error before after long h =
     record { answer_is = refl; layout_is = Held-puts default_layout after default-sound h (length before) long }
 
 -- the front of a run over zeros is the run over fewer

@@ -4,10 +4,11 @@
 use mathlib.Core.Path.{◌≡◌, refl, ap}
 use mathlib.Core.Bool.{true, ◌&&◌}
 use mathlib.Core.List.{List, [], ◌∷◌, ◌++◌}
-use Prim.Native.Nat.{ℕ, suc, ◌+◌, ◌-◌, ◌≤◌}
+use Prim.Native.Nat.{ℕ, suc, ◌+◌, ◌≤◌}
 use native.Mathlib.Omega.{arith}
+use Rattle.std.proofs.lemmas.Bool.Decides.{nat_tests}
 use lib.ListN.{length, length-append}
-use borrow.Author.Tests.{le-leb, eq-eqb}
+use borrow.Author.Tests.{le-leb}
 use Rattle.laws.proofs.Told.{and_both}
 use Rattle.table.specs.declared.row.Row.{Row}
 use Rattle.table.specs.Entries.{Entry, bytes_of}
@@ -24,21 +25,16 @@ abbrev pub Every : List Entry → Type 0
 Every [] = Unit {0}
 Every (x ∷ es) = FormedEntry x × Every es
 
--- the places of a row do not decide whether it is formed
-formed-anywhere : (r n : ℕ) (x : Entry) → FormedEntry x → formed (row_of r n x) ≡ true
-unfolding formed
-formed-anywhere r n x is = is
-
 placed-right : (count fill room : ℕ) → fill + count ≤ room → placed (place_of count fill) count fill room ≡ true
-placed-right count fill room le = rw (eq-eqb (place_of count fill) (place_of count fill) refl, le-leb count (room - fill) (omega arith))
+placed-right count fill room le = grind (arith, nat_tests)
 
+-- the places of a row do not decide whether it is formed
 row-right : (r n words bytes : ℕ) (x : Entry) (y : Row) → y ≡ row_of r n x → FormedEntry x → r + length x.form.refs ≤ words
     → n + length (bytes_of x.form.name) ≤ bytes
     → formed y && (placed y.first y.count r words && placed y.start y.len n bytes) ≡ true
+unfolding formed
 row-right r n words bytes x y is all in_refs in_names =
-    rw is (and_both _ _ (formed-anywhere r n x all)
-    (and_both _ _ (placed-right (length x.form.refs) r words in_refs)
-    (placed-right (length (bytes_of x.form.name)) n bytes in_names)))
+    rw (is, all, placed-right _ r words in_refs, placed-right _ n bytes in_names)
 
 pub formed_from-flat : (es : List Entry) (e : ℕ) (p r n rows refs names : List ℕ) → Every es → Flat es e p r n rows refs names
     → (words bytes : ℕ)

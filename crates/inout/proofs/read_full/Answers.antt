@@ -21,6 +21,3 @@ loop-done-preserved g c =
       placed-within (take l.done l.buf) c.read.new.buf _ l.done c.in_ok-n.n front read.bound.0,
       Consumes-placed _ _ _ (take l.done l.buf) c.read.new.buf _ l.done c.in_ok-n.n _ front read.bound.0 refl l.invariant.1 read.bytes.0,
     )
-
-pub returns-clause-bytes : goal.returns-clause-bytes
-returns-clause-bytes g c = c.loop-done.invariant.1

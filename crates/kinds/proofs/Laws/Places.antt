@@ -1,5 +1,6 @@
 -- Laws of specs/Places.antt: how an arm of a `match` on a kind meets `allowed`, for any of the six places.
 --     kinds_of p, answer_in p     the kinds that the cell p names, and what `allowed p` answers of these
+-- Named in docs/TRACE.md and PROVING.md.
 -- Assumes nothing.
 use mathlib.Core.Path.{◌≡◌, sym}
 use mathlib.Core.Bool.{Bool, true, false, not}

@@ -3,20 +3,20 @@
 --     ReadsTable-unique, ReadsLayout-unique         no second answer fits
 -- Assumes nothing.
 use mathlib.Core.Path.{◌≡◌, refl, sym, ap, ◌∙◌}
-use mathlib.Core.List.{List, [], ◌∷◌}
+use mathlib.Core.List.{List}
 use Prim.Native.Nat.{ℕ}
 use lib.ListN.{length}
 use Rattle.table.specs.Buffers.{over, zeros}
-use Rattle.ferry.specs.declared.Answer.{Answer}
+use Rattle.ferry.specs.Answers.{Answer}
 use Rattle.ferry.specs.Reader.{Lent, Reads}
-use Rattle.datalayout.specs.declared.answer.Refusal.{Refusal}
-use Rattle.datalayout.specs.Answers.{refusal_of}
+use Rattle.std.proofs.Common.{Result}
+use Rattle.datalayout.specs.declared.error.Error.{Error}
 use Rattle.datalayout.specs.Strings.{mapped}
 use Rattle.flat.specs.declared.read.Laid.{Laid}
 use Rattle.flat.specs.Words.{layout_words}
 use Rattle.flat.specs.Reads as flat
 use Rattle.flat.proofs.Laws.Puts.{Puts-unique}
-use Rattle.reckonferry.specs.Library.{answer_words, ReadsTable, refusal_words, ReadsLayout}
+use Rattle.reckonferry.specs.Library.{answer_words, ReadsTable, layout_answer, ReadsLayout}
 
 pub ReadsTable-of-read : (words : List ℕ) (lent : Lent) (a : Answer) (rows refs names witness answer₀ answer : List ℕ)
     → Reads words lent a rows refs names witness → answer ≡ over (answer_words a) answer₀
@@ -33,11 +33,11 @@ ReadsTable-of-read words lent a rows refs names witness answer₀ answer h is = 
   answer_is = is ∙ ap (λ (b : Answer). over (answer_words b) answer₀) h.answer;
 }
 
-pub ReadsLayout-of-laid : (value answer₀ layout₀ answer layout : List ℕ) (laid : Laid) (r : Refusal)
-    → flat.Reads (mapped value) layout₀ laid layout → r ≡ refusal_of laid.answer
-    → answer ≡ over (r.number ∷ r.place ∷ r.detail ∷ []) answer₀ → ReadsLayout value answer₀ layout₀ laid.words answer layout
-ReadsLayout-of-laid value answer₀ layout₀ answer layout laid r read is-r is-answer = record {
-  answer_is = is-answer ∙ ap (λ (s : Refusal). over (refusal_words s) answer₀) (is-r ∙ ap refusal_of read.answer_is);
+pub ReadsLayout-of-laid : (value answer₀ layout₀ answer layout : List ℕ) (laid : Laid)
+    → flat.Reads (mapped value) layout₀ laid layout → answer ≡ over (answer_words (layout_answer laid.answer)) answer₀
+    → ReadsLayout value answer₀ layout₀ laid.words answer layout
+ReadsLayout-of-laid value answer₀ layout₀ answer layout laid read is-answer = record {
+  answer_is = is-answer ∙ ap (λ (s : Result (Unit {0}) Error). over (answer_words (layout_answer s)) answer₀) read.answer_is;
   layout_is = read.layout_is;
 }
 

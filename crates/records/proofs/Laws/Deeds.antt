@@ -1,22 +1,23 @@
 -- Laws of specs/Fill.antt against specs/Values.antt: the deed that is decided by value is the deed on the entries.
 --     FitsDeed d f n        what d puts fits
---     Does t fs d deed      the code's deed d is the deed, where the table is t and the record has the fields fs
+--     Does t fs d deed      the code's deed d is the deed, where the table is t and the record has the fields fs; a refusal is one
 -- Assumes nothing.
 use mathlib.Core.Path.{◌≡◌, refl, sym, ap, ◌∙◌}
 use mathlib.Core.Bool.{Bool, true, false, cond, ◌||◌}
 use mathlib.Core.List.{List, [], ◌∷◌, ◌++◌, append-nil}
 use Prim.Native.Nat.{ℕ, suc, ◌+◌, ◌-◌, ◌≤◌}
 use native.Mathlib.Omega.{arith}
-use lib.Dec.{eqb, ltb}
+use lib.Dec.{ltb}
 use lib.ListN.{length, take, drop, length-append, length-drop}
 use lib.Seq.{length-take-le}
 use borrow.Author.Tests.{ltb-false}
 use Rattle.laws.proofs.Told.{no, or-told}
-use Rattle.kinds.specs.Kinds.{struct}
 use Rattle.table.specs.Entries.{Name, unnamed, called, Form, Entry, bytes_of}
 use Rattle.table.specs.Rows.{words_of, row_of, rows_of, refs_of, names_of}
 use Rattle.table.proofs.Laws.Rows.{rows_of-snoc, refs_of-snoc, names_of-snoc}
 use Rattle.shapes.specs.declared.Head.{Head}
+use Rattle.std.proofs.Common.{Result, Ok, Err}
+use Rattle.shapes.specs.declared.Fault.{Fault}
 use Rattle.shapes.specs.declared.Fault.TheVariants.{AlreadyFilled}
 use Rattle.shapes.specs.declared.Shape.{Shape}
 use Rattle.shapes.specs.declared.Shape.TheVariants as says
@@ -32,37 +33,17 @@ use Rattle.records.specs.Records.{deed_on}
 use Rattle.records.specs.Values.{head_of, filled_of, behind, in_last, deed_by}
 use Rattle.records.specs.Putting.{Fits, Puts}
 
-abbrev pub FitsDeed : Deed → Filled → ℕ → Type 0
-FitsDeed deed.Pass f n = 0 ≤ n
-FitsDeed deed.Pend f n = 0 ≤ n
-FitsDeed (deed.Put p) f n = Fits p f n
-FitsDeed (deed.Refuse fault) f n = 0 ≤ n
+abbrev pub FitsDeed : Result Deed Fault → Filled → ℕ → Type 0
+FitsDeed (Ok deed.Pass) f n = 0 ≤ n
+FitsDeed (Ok deed.Pend) f n = 0 ≤ n
+FitsDeed (Ok (deed.Put p)) f n = Fits p f n
+FitsDeed (Err fault) f n = 0 ≤ n
 
 pub deed-fits : (s : Shape) (f : Filled) (n : ℕ) → last_field s ≤ n → f.last.count ≤ f.refs → FitsDeed (deed_by s f) f n
-deed-fits says.Nothing f n le kept = omega arith
-deed-fits says.Name f n le kept = omega arith
-deed-fits (says.Adds h from) f n le kept = record { kept_le = omega arith; inside = le }
-deed-fits (says.Opaque h from) f n le kept = by (eqb f.last.kind struct) f.last.named
-  where
-    by : (a b : Bool)
-        → FitsDeed (cond a (cond b (deed.Refuse AlreadyFilled) (deed.Put (in_last h f.last.count f.last.count 0 0 f)))
-        (deed.Put (behind h from f))) f n
-    by true true = omega arith
-    by true false = record { kept_le = kept; inside = omega arith }
-    by false b = record { kept_le = omega arith; inside = le }
-deed-fits (says.Named h from) f n le kept = by (eqb f.last.kind struct) (f.last.named || ltb 0 f.last.count)
-  where
-    by : (a b : Bool)
-        → FitsDeed (cond a (cond b (deed.Refuse AlreadyFilled) (deed.Put (in_last h h.count 0 from h.count f)))
-        (deed.Put (behind h from f))) f n
-    by true true = omega arith
-    by true false = record { kept_le = omega arith; inside = le }
-    by false b = record { kept_le = omega arith; inside = le }
-deed-fits (says.Refused fault) f n le kept = omega arith
+deed-fits s f n le kept = grind arith
 
 is_named-name_if : (b : Bool) (p : List ℕ) → b ≡ is_named (name_if b p)
-is_named-name_if true p = refl
-is_named-name_if false p = refl
+is_named-name_if b p = grind arith
 
 same_head : (a b : Head) → a.kind ≡ b.kind → a.number ≡ b.number → a.flag ≡ b.flag → a.count ≡ b.count → a.named ≡ b.named → a ≡ b
 same_head a b p q r s t = rw (← p, ← q, ← r, ← s, ← t)
@@ -91,11 +72,11 @@ module _ (t : Table) (fs : List ℕ) where
   abbrev last : Form
   last = last_form t.entries
 
-  abbrev pub Does : Deed → table.Deed → Type 0
-  Does deed.Pass d = d ≡ table.passes
-  Does deed.Pend d = d ≡ table.pends fs
-  Does (deed.Put p) d = (front : List Entry) × (e : Entry) × (d ≡ table.puts front e) × Puts t fs p front e
-  Does (deed.Refuse fault) d = d ≡ table.refuses fault
+  abbrev pub Does : Result Deed Fault → table.Deed → Type 0
+  Does (Ok deed.Pass) d = d ≡ table.passes
+  Does (Ok deed.Pend) d = d ≡ table.pends fs
+  Does (Ok (deed.Put p)) d = (front : List Entry) × (e : Entry) × (d ≡ table.puts front e) × Puts t fs p front e
+  Does (Err fault) d = d ≡ table.refuses fault
 
   module _ (h : Head) (from : ℕ) (inside : from + h.count ≤ length fs) where
     abbrev form : Form
@@ -168,8 +149,8 @@ module _ (t : Table) (fs : List ℕ) where
   deed-does (says.Opaque h from) le = by (is_struct last) (is_named last.name) refl refl
     where
       by : (a b : Bool) → is_struct last ≡ a → is_named last.name ≡ b
-          → Does (cond a (cond b (deed.Refuse AlreadyFilled) (deed.Put (in_last h (length last.refs) (length last.refs) 0 0
-          (filled_of t)))) (deed.Put (behind h from (filled_of t))))
+          → Does (cond a (cond b (Err AlreadyFilled) (Ok (deed.Put (in_last h (length last.refs) (length last.refs) 0 0
+          (filled_of t))))) (Ok (deed.Put (behind h from (filled_of t)))))
           (cond a (cond b (table.refuses AlreadyFilled) (table.puts (front_of t.entries)
           (entry_of (named (form_of t.pending fs h from).name last))))
           (table.puts t.entries (entry_of (form_of t.pending fs h from))))
@@ -185,8 +166,8 @@ module _ (t : Table) (fs : List ℕ) where
   deed-does (says.Named h from) le = by (is_struct last) (is_named last.name || ltb 0 (length last.refs)) refl refl
     where
       by : (a b : Bool) → is_struct last ≡ a → is_named last.name || ltb 0 (length last.refs) ≡ b
-          → Does (cond a (cond b (deed.Refuse AlreadyFilled) (deed.Put (in_last h h.count 0 from h.count (filled_of t))))
-          (deed.Put (behind h from (filled_of t))))
+          → Does (cond a (cond b (Err AlreadyFilled) (Ok (deed.Put (in_last h h.count 0 from h.count (filled_of t)))))
+          (Ok (deed.Put (behind h from (filled_of t)))))
           (cond a (cond b (table.refuses AlreadyFilled) (table.puts (front_of t.entries)
           (entry_of (refilled (form_of t.pending fs h from) last))))
           (table.puts t.entries (entry_of (form_of t.pending fs h from))))
@@ -199,4 +180,3 @@ module _ (t : Table) (fs : List ℕ) where
             named-puts p none.0 h from le (none-of-length last.refs none.1),
           )
       by false b p q = (t.entries, entry_of (form_of t.pending fs h from), refl, behind-puts h from le)
-  deed-does (says.Refused fault) le = refl

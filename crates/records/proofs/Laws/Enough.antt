@@ -1,8 +1,8 @@
 -- With room enough no record is refused for room: each record asks for so much and no more.
 --     Enough r     there is a room from which on r is no 9
 -- Assumes nothing.
-use mathlib.Core.Path.{◌≡◌, refl}
-use mathlib.Core.Bool.{Bool, true, false, cond, ◌||◌}
+use mathlib.Core.Path.{◌≡◌}
+use mathlib.Core.Bool.{true, false}
 use mathlib.Core.List.{List, [], ◌∷◌, ◌++◌}
 use Prim.Native.Nat.{ℕ, ◌+◌}
 use native.Mathlib.Omega.{arith}
@@ -13,13 +13,12 @@ use Rattle.table.specs.Entries.{Entry}
 use Rattle.table.specs.Rows.{refs_of, names_of}
 use Rattle.stream.specs.Stream.{Stream, done, cut, rec}
 use Rattle.shapes.specs.declared.Fault.{Fault}
-use Rattle.shapes.specs.declared.Fault.TheVariants.{AlreadyFilled, NoRoom}
+use Rattle.shapes.specs.declared.Fault.TheVariants.{NoRoom}
+use Rattle.std.proofs.Common.{Result}
 use Rattle.shapes.specs.declared.Shape.{Shape}
-use Rattle.shapes.specs.declared.Shape.TheVariants as says
 use Rattle.shapes.specs.Shapes.{shape_in}
 use Rattle.records.specs.Table.{Table, Room, fits, Deed, passes, pends, puts, refuses}
-use Rattle.records.specs.Fill.{last_form, is_named, is_struct}
-use Rattle.records.specs.Records.{deed_on, pending_after, after, Ran, bad, onward, run}
+use Rattle.records.specs.Records.{deed_if, pending_after, after, Ran, bad, onward, run}
 use Rattle.records.specs.Promises.{Larger}
 use Rattle.records.proofs.Laws.Room.{is_no_room, Early, shape_in-early, fits-of}
 
@@ -29,20 +28,8 @@ EarlyDeed (pends bytes) = Unit {0}
 EarlyDeed (puts front e) = Unit {0}
 EarlyDeed (refuses f) = is_no_room f ≡ false
 
-fill-early : (a b : Bool) (x y : List Entry) (e f : Entry) → EarlyDeed (cond a (cond b (refuses AlreadyFilled) (puts x e)) (puts y f))
-fill-early true true x y e f = refl
-fill-early true false x y e f = tt
-fill-early false b x y e f = tt
-
-deed-early : (t : Table) (fs : List ℕ) (s : Shape) → Early s → EarlyDeed (deed_on t fs s)
-deed-early t fs says.Nothing h = tt
-deed-early t fs says.Name h = tt
-deed-early t fs (says.Adds x from) h = tt
-deed-early t fs (says.Opaque x from) h = fill-early (is_struct (last_form t.entries)) (is_named (last_form t.entries).name) _ _ _ _
-deed-early t fs (says.Named x from) h =
-    fill-early (is_struct (last_form t.entries)) (is_named (last_form t.entries).name || ltb 0 (length (last_form t.entries).refs)) _
-    _ _ _
-deed-early t fs (says.Refused f) h = h
+deed-early : (t : Table) (fs : List ℕ) (r : Result Shape Fault) → Early r → EarlyDeed (deed_if t fs r)
+deed-early t fs r h = grind arith
 
 abbrev pub Enough : (Room → Ran) → Type 0
 Enough r = (room : Room) × ((b : Room) → Larger room b → (k : ℕ) → r b ≡ bad k NoRoom → ⊥)
@@ -51,10 +38,7 @@ abbrev no_room : Room
 no_room = record { entries = 0; refs = 0; names = 0 }
 
 not-early : (n k : ℕ) (f : Fault) → is_no_room f ≡ false → bad n f ≡ bad k NoRoom → ⊥
-not-early n k f early e =
-    let same : f ≡ NoRoom = cc in
-    let z : true ≡ false = rw same at early in
-    no (cc)
+not-early n k f early e = grind arith
 
 module _ (n : ℕ) (t : Table) (s : Stream) (later : (u : Table) → Enough (λ b. run b (n + 1) u s)) where
   put-enough : (front : List Entry) (e : Entry) → Enough (λ b. onward (after b t (puts front e)) n (λ u. run b (n + 1) u s))
@@ -90,4 +74,4 @@ run-enough done n t = (no_room, λ b l k q. no (cc))
 run-enough cut n t = (no_room, λ b l k q. no (cc))
 run-enough (rec c fs s) n t =
     let p = ltb 0 (length t.pending) in
-    step-enough n t s (λ u. run-enough s (n + 1) u) (deed_on t fs (shape_in c fs p)) (deed-early t fs (shape_in c fs p) (shape_in-early c fs p))
+    step-enough n t s (λ u. run-enough s (n + 1) u) (deed_if t fs (shape_in c fs p)) (deed-early t fs (shape_in c fs p) (shape_in-early c fs p))

@@ -16,15 +16,17 @@ use Rattle.table.specs.Entries.{Name, unnamed, called, Form, Entry, bytes_of, na
 use Rattle.stream.specs.Stream.{Stream, done, cut, rec}
 use Rattle.shapes.specs.declared.Head.{Head}
 use Rattle.shapes.specs.declared.Fault.TheVariants.{AlreadyFilled, NoRoom}
+use Rattle.std.proofs.Common.{Result, Ok, Err}
+use Rattle.shapes.specs.declared.Fault.{Fault}
 use Rattle.shapes.specs.declared.Shape.{Shape}
 use Rattle.shapes.specs.declared.Shape.TheVariants as says
 use Rattle.shapes.specs.Shapes.{shape_in}
-use Rattle.shapes.proofs.Laws.Shapes.{last_field, shape_in-inside}
+use Rattle.shapes.proofs.Laws.Shapes.{last_field, Inside, shape_in-inside}
 use Rattle.formed.specs.Form.{formed}
 use Rattle.formed.proofs.Laws.Formed.{FormedEntry, Every}
 use Rattle.records.specs.Table.{Table, Room, fits, Deed, passes, pends, puts, refuses, form_of, entry_of, name_if}
 use Rattle.records.specs.Fill.{last_form, front_of, is_named, is_struct}
-use Rattle.records.specs.Records.{deed_on, Outcome, go, stop, pending_after, after, step_of, whole, onward, run}
+use Rattle.records.specs.Records.{deed_on, deed_if, Outcome, go, stop, pending_after, after, step_of, whole, onward, run}
 use Rattle.records.proofs.Laws.Forms.{FairHead, Fair, shape_in-fair}
 
 Every-snoc : (es : List Entry) (e : Entry) → Every es → FormedEntry e → Every (es ++ (e ∷ []))
@@ -119,7 +121,7 @@ module _ (t : Table) (fs : List ℕ) (all : Every t.entries) where
   )
   fill-formed h from barred refs inside fair false is = (all, by-head t.pending fs h from inside fair)
 
-  deed-formed : (s : Shape) → Fair s → last_field s ≤ length fs → FormedDeed (deed_on t fs s)
+  deed-formed : (s : Shape) → Fair (Ok s) → last_field s ≤ length fs → FormedDeed (deed_on t fs s)
   deed-formed says.Nothing fair inside = tt
   deed-formed says.Name fair inside = tt
   deed-formed (says.Adds h from) fair inside = (all, by-head t.pending fs h from inside fair)
@@ -129,7 +131,10 @@ module _ (t : Table) (fs : List ℕ) (all : Every t.entries) where
   deed-formed (says.Named h from) fair inside =
       fill-formed h from (is_named (last_form t.entries).name || ltb 0 (length (last_form t.entries).refs))
       (take h.count (drop from fs)) inside fair (is_struct (last_form t.entries)) refl
-  deed-formed (says.Refused fault) fair inside = tt
+
+  deed_if-formed : (r : Result Shape Fault) → Fair r → Inside r (length fs) → FormedDeed (deed_if t fs r)
+  deed_if-formed (Ok s) fair inside = deed-formed s fair inside
+  deed_if-formed (Err fault) fair inside = tt
 
 -- what every record keeps, the whole stream keeps
 
@@ -167,11 +172,11 @@ after-keeps Q room t q (refuses fault) h = tt
 pub step-formed : (room : Room) (t : Table) (c : ℕ) (fs : List ℕ) → Every t.entries → Keeps Every (step_of room t c fs)
 step-formed room t c fs all =
     let p = ltb 0 (length t.pending) in
-    let good = deed-formed t fs all (shape_in c fs p) (shape_in-fair c fs p) (shape_in-inside c fs p) in
-    after-keeps Every room t all (deed_on t fs (shape_in c fs p)) (λ front e is fit. let both-formed : Every front × FormedEntry e = rw is
+    let good = deed_if-formed t fs all (shape_in c fs p) (shape_in-fair c fs p) (shape_in-inside c fs p) in
+    after-keeps Every room t all (deed_if t fs (shape_in c fs p)) (λ front e is fit. let both-formed : Every front × FormedEntry e = rw is
     at good in Every-snoc front e both-formed.0 both-formed.1)
 
 pub step_fits : (room : Room) (t : Table) (c : ℕ) (fs : List ℕ) → fits room t.entries ≡ true
     → Keeps (λ es. fits room es ≡ true) (step_of room t c fs)
 step_fits room t c fs q =
-    after-keeps (λ es. fits room es ≡ true) room t q (deed_on t fs (shape_in c fs (ltb 0 (length t.pending)))) (λ front e is fit. fit)
+    after-keeps (λ es. fits room es ≡ true) room t q (deed_if t fs (shape_in c fs (ltb 0 (length t.pending)))) (λ front e is fit. fit)

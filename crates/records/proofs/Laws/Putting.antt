@@ -31,20 +31,16 @@ last_form-snoc (x ∷ y ∷ es) e = last_form-snoc (y ∷ es) e
 -- a name that is taken, or none
 
 ends : (b : Bool) (p : List ℕ) (m : ℕ) → m + length (bytes_of (name_if b p)) ≡ cond b (m + length p) m
-ends true p m = refl
-ends false p m = omega arith
+ends b p m = grind arith
 
 ends-pending : (b : Bool) (p : List ℕ) (m : ℕ) → m + length p ≡ m + length (bytes_of (name_if b p)) + length (pending_after (name_if b p) p)
-ends-pending true p m = omega arith
-ends-pending false p m = omega arith
+ends-pending b p m = grind arith
 
 name-length : (b : Bool) (p : List ℕ) (m : ℕ) → cond b (m + length p) m - m ≡ length (bytes_of (name_if b p))
-name-length true p m = omega arith
-name-length false p m = omega arith
+name-length b p m = grind arith
 
 named-word : (b : Bool) (p : List ℕ) → cond b 1 0 ≡ named_of (name_if b p)
-named-word true p = refl
-named-word false p = refl
+named-word b p = grind arith
 
 pub names-join : (b : Bool) (p ns : List ℕ) → ns ++ p ≡ (ns ++ bytes_of (name_if b p)) ++ pending_after (name_if b p) p
 names-join true p ns = sym (append-nil (ns ++ p))

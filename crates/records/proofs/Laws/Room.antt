@@ -1,31 +1,29 @@
 -- Room: more of it changes no answer but 9, and with room enough there is no 9.
 -- Assumes nothing.
 use mathlib.Core.Path.{◌≡◌, refl, ap}
-use mathlib.Core.Bool.{Bool, true, false, cond, ◌&&◌}
+use mathlib.Core.Bool.{Bool, true, false, cond}
 use mathlib.Core.Logic.{◌⊎◌, inl, inr}
 use mathlib.Core.List.{List, [], ◌∷◌, ◌++◌}
 use Prim.Native.Nat.{ℕ, ◌+◌, ◌≤◌}
 use native.Mathlib.Omega.{arith}
+use Rattle.std.specs.Prelude.{Result, Ok, Err}
 use lib.Dec.{ltb}
 use lib.ListN.{length}
 use borrow.Author.Tests.{le-leb, leb-true}
 use Rattle.laws.proofs.Told.{no, and-told}
 use Rattle.kinds.specs.declared.code.TypeCode.{TypeCode}
-use Rattle.kinds.specs.declared.code.TypeCode.TheVariants as code
+use Rattle.kinds.specs.declared.code.UnknownCode.{UnknownCode}
 use Rattle.kinds.specs.Codes.{type_code}
-use Rattle.units.specs.Limits.{is_address_space}
 use Rattle.table.specs.Entries.{Entry}
 use Rattle.table.specs.Rows.{refs_of, names_of}
 use Rattle.stream.specs.Stream.{Stream, done, cut, rec}
-use Rattle.utf8.specs.Utf8.{is_utf8}
 use Rattle.shapes.specs.declared.Fault.{Fault}
 use Rattle.shapes.specs.declared.Fault.TheVariants as fault
 use Rattle.shapes.specs.declared.Seen.{Seen}
 use Rattle.shapes.specs.declared.Shape.{Shape}
-use Rattle.shapes.specs.declared.Shape.TheVariants as says
-use Rattle.shapes.specs.Shapes.{needed, adds, spaced, opaque_if, whole_shape, shape_of, seen_in, spelled, shape_in}
+use Rattle.shapes.specs.Shapes.{needed, whole_shape, shape_of, shape_from, seen_in, spelled_if, shape_in}
 use Rattle.records.specs.Table.{Table, Room, fits, Deed, passes, pends, puts, refuses}
-use Rattle.records.specs.Records.{deed_on, Outcome, go, stop, after, step_of, bad, onward, run}
+use Rattle.records.specs.Records.{deed_if, Outcome, go, stop, after, step_of, bad, onward, run}
 use Rattle.records.specs.Promises.{Larger}
 
 pub fits_told : (room : Room) (es : List Entry) → fits room es ≡ true
@@ -75,7 +73,7 @@ module _ (a b : Room) (l : Larger a b) where
   run_more done n t = inl refl
   run_more cut n t = inl refl
   run_more (rec c fs s) n t = by (step_of a t c fs) (step_of b t c fs) (after_more t
-      (deed_on t fs (shape_in c fs (ltb 0 (length t.pending))))) (λ u. run_more s (n + 1) u)
+      (deed_if t fs (shape_in c fs (ltb 0 (length t.pending))))) (λ u. run_more s (n + 1) u)
     where
       by : (o p : Outcome) → (o ≡ p) ⊎ (o ≡ stop fault.NoRoom)
           → ((u : Table) → (run a (n + 1) u s ≡ run b (n + 1) u s) ⊎ ((k : ℕ) × (run a (n + 1) u s ≡ bad k fault.NoRoom)))
@@ -98,60 +96,27 @@ is_no_room fault.AlreadyFilled = false
 is_no_room (fault.SpaceTooLarge k) = false
 is_no_room fault.NoRoom = true
 
-abbrev pub Early : Shape → Type 0
-Early says.Nothing = Unit {0}
-Early says.Name = Unit {0}
-Early (says.Adds h from) = Unit {0}
-Early (says.Opaque h from) = Unit {0}
-Early (says.Named h from) = Unit {0}
-Early (says.Refused f) = is_no_room f ≡ false
+abbrev pub Early : Result Shape Fault → Type 0
+Early (Ok s) = Unit {0}
+Early (Err f) = is_no_room f ≡ false
 
-spaced-early : (k space count : ℕ) → Early (spaced k space count)
-spaced-early k space count = by (is_address_space space)
-  where
-    by : (b : Bool) → Early (cond b (adds k space 0 0 count) (says.Refused (fault.SpaceTooLarge space)))
-    by true = tt
-    by false = refl
-
-opaque-early : (p : Bool) → Early (opaque_if p)
-opaque-early true = tt
-opaque-early false = refl
-
-whole-early : (c : TypeCode) (k : ℕ) (s : Seen) (p : Bool) → Early (whole_shape c k s p)
+whole-early : (c : TypeCode) (s : Seen) (p : Bool) → Early (whole_shape c s p)
 unfolding whole_shape
-whole-early code.NumEntry k s p = tt
-whole-early (code.Plain kind) k s p = tt
-whole-early code.Opaque k s p = opaque-early p
-whole-early code.Integer k s p = tt
-whole-early code.Pointer k s p = spaced-early _ s.second 1
-whole-early code.FunctionOld k s p = refl
-whole-early code.Array k s p = tt
-whole-early code.Vector k s p = tt
-whole-early code.StructAnon k s p = tt
-whole-early code.StructName k s p = tt
-whole-early code.StructNamed k s p = tt
-whole-early code.Function k s p = tt
-whole-early code.OpaquePointer k s p = spaced-early _ s.first 0
-whole-early code.Unknown k s p = refl
+whole-early c s p = grind arith
 
-shape-early : (c : TypeCode) (k : ℕ) (s : Seen) (p : Bool) → Early (shape_of c k s p)
-shape-early c k s p = by (ltb s.count (needed c))
+shape-early : (c : TypeCode) (s : Seen) (p : Bool) → Early (shape_of c s p)
+shape-early c s p = by (ltb s.count (needed c))
   where
-    by : (b : Bool) → Early (cond b (says.Refused fault.LacksField) (whole_shape c k s p))
+    by : (b : Bool) → Early (cond b (Err fault.LacksField) (whole_shape c s p))
     by true = refl
-    by false = whole-early c k s p
+    by false = whole-early c s p
 
-spelled-early : (fs : List ℕ) (s : Shape) → Early s → Early (spelled fs s)
-spelled-early fs says.Nothing h = tt
-spelled-early fs says.Name h = by (ltb 0 (length fs) && is_utf8 fs)
-  where
-    by : (b : Bool) → Early (cond b says.Name (says.Refused fault.BadName))
-    by true = tt
-    by false = refl
-spelled-early fs (says.Adds x from) h = tt
-spelled-early fs (says.Opaque x from) h = tt
-spelled-early fs (says.Named x from) h = tt
-spelled-early fs (says.Refused f) h = h
+from-early : (r : Result TypeCode UnknownCode) (s : Seen) (p : Bool) → Early (shape_from r s p)
+from-early (Ok c) s p = shape-early c s p
+from-early (Err e) s p = refl
+
+spelled-early : (fs : List ℕ) (r : Result Shape Fault) → Early r → Early (spelled_if fs r)
+spelled-early fs r h = grind arith
 
 pub shape_in-early : (k : ℕ) (fs : List ℕ) (p : Bool) → Early (shape_in k fs p)
-shape_in-early k fs p = spelled-early fs (shape_of (type_code k) k (seen_in fs) p) (shape-early (type_code k) k (seen_in fs) p)
+shape_in-early k fs p = spelled-early fs (shape_from (type_code k) (seen_in fs) p) (from-early (type_code k) (seen_in fs) p)

@@ -18,8 +18,7 @@ use Rattle.shapes.specs.declared.Fault.{Fault}
 use Rattle.shapes.specs.declared.Fault.TheVariants.{NoRoom}
 use Rattle.records.specs.declared.Filled.{Filled}
 use Rattle.records.specs.declared.Put.{Put}
-use Rattle.records.specs.declared.Step.{Step}
-use Rattle.records.specs.declared.Step.TheVariants.{Go, Stop}
+use Rattle.std.proofs.Common.{Result, Ok, Err}
 use Rattle.records.specs.Table.{Table, Room, fits, passes, pends, puts, refuses}
 use Rattle.records.specs.Records.{Outcome, after}
 use Rattle.records.specs.Values.{filled_of, end_of, has_room, row_for, grown}
@@ -37,7 +36,7 @@ pending-is f t is = ap (λ (x : Filled). ltb x.taken x.mark) is ∙ by t.pending
     by (x ∷ p) n = lt-ltb n (n + length (x ∷ p)) (omega arith) ∙ sym (lt-ltb 0 (length (x ∷ p)) (omega arith))
 
 -- what is known of an outcome is known of an equal one
-pub step_after : (b : Buffers) (o u : Outcome) (s : Step) (x y z : List ℕ) → u ≡ o → After b o s x y z → After b u s x y z
+pub step_after : (b : Buffers) (o u : Outcome) (s : Result Filled Fault) (x y z : List ℕ) → u ≡ o → After b o s x y z → After b u s x y z
 step_after b o u s x y z e h = rw e h
 
 module _ (b : Buffers) (t : Table) (rows refs names : List ℕ) (H : Holds b t rows refs names) where
@@ -50,24 +49,24 @@ module _ (b : Buffers) (t : Table) (rows refs names : List ℕ) (H : Holds b t r
   pub length-names : length names ≡ length b.names
   length-names = ap length H.names_are ∙ length_over (names_of t.entries ++ t.pending) b.names
 
-  pub After-pass : (room : Room) (f : Filled) → f ≡ filled_of t → After b (after room t passes) (Go f) rows refs names
+  pub After-pass : (room : Room) (f : Filled) → f ≡ filled_of t → After b (after room t passes) (Ok f) rows refs names
   unfolding after
-  After-pass room f is = (ap Go is, H)
+  After-pass room f is = (ap Ok is, H)
 
-  pub After-refuse : (room : Room) (fault : Fault) → After b (after room t (refuses fault)) (Stop fault) rows refs names
+  pub After-refuse : (room : Room) (fault : Fault) → After b (after room t (refuses fault)) (Err fault) rows refs names
   unfolding after
   After-refuse room fault = refl
 
   pub After-pend : (room : Room) (f g : Filled) (fs z : List ℕ) → f ≡ filled_of t
       → g ≡ record { entries = f.entries; refs = f.refs; taken = f.taken; mark = f.mark + length fs; last = f.last }
-      → z ≡ over ((names_of t.entries ++ t.pending) ++ fs) b.names → After b (after room t (pends fs)) (Go g) rows refs z
+      → z ≡ over ((names_of t.entries ++ t.pending) ++ fs) b.names → After b (after room t (pends fs)) (Ok g) rows refs z
   unfolding after
   After-pend room f g fs z is is-g is-z =
       let n = length (names_of t.entries) in
       let m : n + length t.pending + length fs ≡ n + length (t.pending ++ fs) = simp length-append (omega arith) in
       let next = filled_of (record { entries = t.entries; pending = t.pending ++ fs }) in
       let k : f.mark ≡ n + length t.pending = ap (λ (x : Filled). x.mark) is in (
-        ap Go (is-g ∙ same-filled _ next (ap (λ (x : Filled). x.entries) is) (ap (λ (x : Filled). x.refs) is)
+        ap Ok (is-g ∙ same-filled _ next (ap (λ (x : Filled). x.entries) is) (ap (λ (x : Filled). x.refs) is)
             (ap (λ (x : Filled). x.taken) is) (rw k m) (ap (λ (x : Filled). x.last) is)),
         record {
           rows_are = H.rows_are;
@@ -84,7 +83,7 @@ module _ (b : Buffers) (t : Table) (rows refs names : List ℕ) (H : Holds b t r
     room-is : has_room p f entries y z ≡ fits (room_in entries b) (front ++ (e ∷ []))
     room-is = rw (is, is_y ∙ length-refs, is-z) (room_after t fs p front e P inside entries b)
 
-    pub After-full : has_room p f entries y z ≡ false → After b (after (room_in entries b) t (puts front e)) (Stop NoRoom) rows refs names
+    pub After-full : has_room p f entries y z ≡ false → After b (after (room_in entries b) t (puts front e)) (Err NoRoom) rows refs names
     unfolding after
     After-full none = rw (sym room-is ∙ none)
 
@@ -92,7 +91,7 @@ module _ (b : Buffers) (t : Table) (rows refs names : List ℕ) (H : Holds b t r
         → g ≡ grown p f → r ≡ row_for p f → src ≡ take p.more (drop p.from fs)
         → x ≡ over (words_of r) (take (length rows - p.row * row_words) (drop (p.row * row_words) rows))
         → y' ≡ over src (take (length refs - f.refs) (drop f.refs refs))
-        → After b (after (room_in entries b) t (puts front e)) (Go g)
+        → After b (after (room_in entries b) t (puts front e)) (Ok g)
         (take (p.row * row_words) rows ++ (x ++ drop (length rows - p.row * row_words) (drop (p.row * row_words) rows)))
         (take f.refs refs ++ (y' ++ drop (length refs - f.refs) (drop f.refs refs))) names
     unfolding after
@@ -106,7 +105,7 @@ module _ (b : Buffers) (t : Table) (rows refs names : List ℕ) (H : Holds b t r
         let long : length rows ≡ length b.rows = length-rows in
         let old : rows ≡ over (rows_of front ++ P.old_row) b.rows = H.rows_are ∙ ap (λ (l : List ℕ). over l b.rows) P.rows_were in
         rw (sym room-is ∙ room) (
-          ap Go (is-g ∙ ap (grown p) is ∙ filled-after t fs p front e P inside),
+          ap Ok (is-g ∙ ap (grown p) is ∙ filled-after t fs p front e P inside),
           record {
             rows_are = over-again (rows_of front) b.rows rows x (p.row * row_words) at (omega arith) P.old_row (words_of r) old
                 P.old_le (simp length-append (omega arith)) is_x ∙ rw (row, rows_of-snoc front e);

@@ -14,12 +14,19 @@ use Rattle.kinds.specs.Kinds.{integer}
 use Rattle.units.specs.Limits.{is_integer_width}
 use Rattle.table.specs.Rows.{entry_room, row_at}
 use Rattle.ranks.specs.Table.{kept, broken, Refers, Lawful, Passes}
-use Rattle.rules.specs.Places.{place_at, suits}
+use Rattle.rules.specs.declared.Place.{Place}
+use Rattle.rules.specs.Places.{place_at, stands, suits}
 use Rattle.rules.specs.Counts.{counted}
-use Rattle.rules.specs.Lawful.{max_entries, refs_at, bad_width, number_of, first_bad, rule_at, table_of}
+use Rattle.rules.specs.Lawful.{max_entries, refs_at, bad_width, barred, first_bad, rule_at, table_of}
+use Rattle.std.specs.Prelude.{Option, Some, None}
 use Rattle.formed.specs.Formed.{row_ok, formed_from, well_formed}
 use Rattle.checker.specs.Checked.{every_from, refers, lawful, rows_from, checked}
 use Rattle.resolve.specs.Formed.{table_formed}
+
+-- a reference that may not stand in its place is refused
+barred-told : (place : Option Place) (k r : ℕ) → stands place k ≡ false → barred place r ≡ kept → ⊥
+barred-told None k r q h = cc
+barred-told (Some p) k r q h = cc
 
 -- references, from number i of entry e on
 module _ (rows refs ranks : List ℕ) (n e : ℕ) where
@@ -78,13 +85,13 @@ module _ (rows refs ranks : List ℕ) (n e : ℕ) where
   every_of (x ∷ xs) i h f = go (suits kind i (row_at rows x).kind) refl h (λ k. every_of xs (suc i) k (λ r m. f r (Memᴰ.tail m)))
     where
       go : (s : Bool) → suits kind i (row_at rows x).kind ≡ s → cond s (first_bad rows kind (suc i) xs)
-          (broken (number_of (place_at kind i)) x) ≡ kept
+          (barred (place_at kind i) x) ≡ kept
           → (first_bad rows kind (suc i) xs ≡ kept → every_from (refers rows ranks n e) (suc i) xs ≡ true)
           → refers rows ranks n e i x && every_from (refers rows ranks n e) (suc i) xs ≡ true
       go true q h rest =
           let g = f x (Memᴰ.head refl) in
           rw (of-good i x (record { inside = g.0; suited = q; falls = g.1 })) (rest h)
-      go false q h rest = let z : ◌≡◌ {A = ℕ} 0 1 = cc in absurd (omega arith)
+      go false q h rest = absurd (barred-told (place_at kind i) _ x q h)
 
   abbrev wide : Bool
   wide = eqb kind integer && not (is_integer_width (row_at rows e).number)

@@ -14,7 +14,7 @@ use Rattle.table.specs.Rows.{row_words, entry_room, row_at, words_of, row_of, pl
 use Rattle.table.specs.Back.{name_by, entry_of_row, entry_at, entries_from}
 use Rattle.table.proofs.Laws.Rows.{row_at-is, length-rows_of}
 use Rattle.table.proofs.Laws.Back.{name_back}
-use Rattle.rules.specs.Lawful.{max_entries, refs_at}
+use Rattle.rules.specs.Lawful.{max_entries}
 use Rattle.formed.specs.Form.{formed, placed}
 use Rattle.formed.specs.Formed.{row_ok, formed_from, well_formed}
 use Rattle.resolve.specs.Formed.{table_formed}
@@ -104,12 +104,6 @@ module _ (rows refs names : List ℕ) (e r k : ℕ) (x : Entry) (xs : List Entry
         placed-is (length form-refs) r refs (begun-fits r refs form-refs (refs_of xs) refs-first),
         placed-is (length form-name) k names (begun-fits k names form-name (names_of xs) names-first),
       )
-
-  -- the references that the row says are the entry's
-  pub refs-read : refs_at rows refs e ≡ form-refs
-  refs-read =
-      sym (ap (λ (w : Row). take w.count (drop w.first refs)) row_reads)
-      ∙ (stretch-place (length form-refs) r refs ∙ begun-stretch r refs form-refs (refs_of xs) refs-first)
 
   name-read : take (length form-name) (drop (place_of (length form-name) k) names) ≡ form-name
   name-read = stretch-place (length form-name) k names ∙ begun-stretch k names form-name (names_of xs) names-first

@@ -1,4 +1,4 @@
--- A law of specs/Letters.antt: a letter that no line of the table has.
+-- A law of specs/Letters.antt: a letter that no line of the table has. Named in docs/PROVING.md.
 -- Assumes nothing.
 use mathlib.Core.Path.{◌≡◌, refl}
 use mathlib.Core.List.{List, [], ◌∷◌}

@@ -1,6 +1,6 @@
 -- Laws of specs/Buffers.antt: zeros; a run laid over a buffer step by step (words, bytes and zeros alike), and behind another run.
 --     Laid run rest i l     l is rest with the first i of run laid over its front
---     stored_from i run l    l with run stored word by word from place i on
+--     stored_from i run l   l with run stored word by word from place i on
 --     over-rest             a run laid behind another; over-again: in place of a shorter one; padded-rest: zeros behind it
 -- Assumes nothing.
 use mathlib.Core.Path.{◌≡◌, refl, sym, ap, ◌∙◌}
@@ -40,9 +40,6 @@ pub record Laid (run rest : List ℕ) (i : ℕ) (l : List ℕ) : Type 0 where
   pub content : l ≡ take i run ++ drop i rest
 
 module _ (run rest : List ℕ) where
-  pub Laid-first : Laid run rest 0 rest
-  Laid-first = record { in_run = omega arith; in_rest = omega arith; long = refl; content = refl }
-
   stored : (i : ℕ) → i < length run → i < length rest
       → set (take i run ++ drop i rest) i (get_or run i 0) ≡ take (i + 1) run ++ drop (i + 1) rest
   stored i in_run in_rest =
@@ -75,7 +72,19 @@ module _ (run rest : List ℕ) where
       ⊎_elim (λ (e : i ≡ length run). Laid-done i l h (omega arith)) (λ (q : i < length run). Laid-clipped i l h (omega arith))
       (eq-or-lt_of_le h.in_run)
 
--- a run stored word by word, from place i on: past the end of l nothing is stored
+  -- as far as both reach
+  pub over-front : (i : ℕ) → i ≡ min (length run) (length rest) → take i run ++ drop i rest ≡ over run rest
+  over-front i is =
+      Laid-ended i (take i run ++ drop i rest)
+      (record {
+        in_run = omega arith;
+        in_rest = omega arith;
+        long = simp (length-append, length-take, length-drop) (omega arith);
+        content = refl;
+      })
+      (omega arith)
+
+-- Named in docs/BENCHMARKS.md and PROVING.md: a run stored word by word, from place i on; past the end of l nothing is stored.
 abbrev pub stored_from : ℕ → List ℕ → List ℕ → List ℕ
 stored_from i [] l = l
 stored_from i (v ∷ run) l = stored_from (suc i) run (set l i v)
@@ -94,12 +103,6 @@ stored-agrees-over [] [] = refl
 stored-agrees-over [] (x ∷ l) = refl
 stored-agrees-over (v ∷ run) [] = stored_from-nil 1 run
 stored-agrees-over (v ∷ run) (x ∷ l) = stored_from-cons v 0 run l ∙ ap (λ (k : List ℕ). v ∷ k) (stored-agrees-over run l)
-
-pub over_zeros : (l : List ℕ) → over (zeros (length l)) l ≡ zeros (length l)
-unfolding over
-over_zeros l =
-    let long = length-zeros (length l) in
-    rw (long, take_all (length l) (zeros (length l)) (omega arith), drop-length l, append-nil)
 
 pub length-low_bytes : (ws : List ℕ) → length (low_bytes ws) ≡ length ws
 unfolding low_bytes

@@ -2,12 +2,12 @@
 -- Assumes nothing.
 use mathlib.Core.Path.{◌≡◌, refl, sym, ◌∙◌}
 use mathlib.Core.List.{List, [], ◌∷◌, ◌++◌, append-nil, append_assoc}
-use Prim.Native.Nat.{ℕ, ◌+◌, ◌*◌, ◌<◌}
+use Prim.Native.Nat.{ℕ, ◌+◌, ◌*◌}
 use native.Mathlib.Omega.{arith}
-use lib.ListN.{length, get_or, length-append, get_or-eq_default}
+use lib.ListN.{length, get_or, length-append}
 use Rattle.table.specs.declared.row.Row.{Row}
 use Rattle.table.specs.Entries.{Entry, bytes_of}
-use Rattle.table.specs.Rows.{row_words, entry_room, row_at, words_of, row_of, rows_from, rows_of, refs_of, names_of}
+use Rattle.table.specs.Rows.{row_words, row_at, words_of, row_of, rows_from, rows_of, refs_of, names_of}
 
 pub refs_of-snoc : (es : List Entry) (e : Entry) → refs_of (es ++ (e ∷ [])) ≡ refs_of es ++ e.form.refs
 unfolding refs_of
@@ -56,10 +56,3 @@ module _ (rows : List ℕ) (e : ℕ) where
       → g ≡ get_or rows (e * row_words + 5) 0 → h ≡ get_or rows (e * row_words + 6) 0 → i ≡ get_or rows (e * row_words + 7) 0
       → ◌≡◌ {A = Row} (record { kind = a; number = b; flag = c; first = d; count = f; start = g; len = h; named = i }) (row_at rows e)
   row_at-is a b c d f g h i is-a is_b is_c is-d is_f is-g is-h is-i = rw (is-a, is_b, is_c, is-d, is_f, is-g, is-h, is-i)
-
-  pub row_at-past : entry_room (length rows) < e
-      → ◌≡◌ {A = Row} (record { kind = 0; number = 0; flag = 0; first = 0; count = 0; start = 0; len = 0; named = 0 }) (row_at rows e)
-  row_at-past past =
-      let none : (k : ℕ) → 0 ≡ get_or rows (e * row_words + k) 0 = λ k. sym (get_or-eq_default rows 0 (omega arith)) in
-      row_at-is 0 0 0 0 0 0 0 0 (sym (get_or-eq_default rows 0 (omega arith))) (none 1) (none 2) (none 3) (none 4) (none 5) (none 6)
-      (none 7)

@@ -13,8 +13,8 @@ use native.Mathlib.Omega.{arith}
 use lib.Dec.{eqb}
 use lib.Pow.{pow-lt, pow_mono, pow-add}
 use borrow.Author.Tests.{eq-eqb, ne_eqb, eqb-true, eqb-false, lt-ltb, le-ltb}
-use Rattle.units.specs.declared.align.Alignment.{Alignment}
-use Rattle.units.specs.declared.align.Alignment.TheVariants.{Of, Bad}
+use Rattle.std.specs.Prelude.{Option, Some, None}
+use Rattle.units.specs.declared.align.Align.{Align}
 use Rattle.units.specs.Align.{at, shift_below, size_of}
 
 -- two shifts of one unit are never the same size
@@ -32,20 +32,15 @@ alignment-of-eq (suc top) unit n shift pos lt e =
     rw ne (alignment-of-eq top unit n shift pos below e))
     (eq-or-lt_of_le {n = shift} {m = top} (omega arith))
 
-pub alignment-none : (limit unit n : ℕ) → ((shift : ℕ) → shift < limit → n ≡ unit * 2 ^ shift → ⊥) → shift_below limit unit n ≡ Bad
+pub alignment-none : (limit unit n : ℕ) → ((shift : ℕ) → shift < limit → n ≡ unit * 2 ^ shift → ⊥) → shift_below limit unit n ≡ None
 unfolding shift_below
 alignment-none zero unit n none = refl
 alignment-none (suc top) unit n none =
     rw (ne_eqb n (unit * 2 ^ top) (none top (omega arith))) (alignment-none top unit n (λ shift lt. none shift (omega arith)))
 
--- one shift more was looked at
-pub alignment-more : (limit unit n : ℕ) → shift_below limit unit n ≡ Bad → (n ≡ unit * 2 ^ limit → ⊥) → shift_below (suc limit) unit n ≡ Bad
-unfolding shift_below
-alignment-more limit unit n h none = rw (ne_eqb n (unit * 2 ^ limit) none) h
-
-abbrev shift_in : Alignment → ℕ
-shift_in (Of a) = a.0
-shift_in Bad = 0
+abbrev shift_in : Option Align → ℕ
+shift_in (Some a) = a.0
+shift_in None = 0
 
 -- no second answer: where there is an alignment, n is that many times the unit
 pub eq-of-alignment : (limit unit n shift : ℕ) → shift_below limit unit n ≡ at shift → (shift < limit) × (n ≡ unit * 2 ^ shift)

@@ -13,10 +13,12 @@ use Rattle.laws.specs.Numbers.{within}
 use Rattle.laws.proofs.Bools.{T_true, T_and}
 use Rattle.laws.proofs.Numbers.{within-inside, within-above}
 use Rattle.laws.proofs.Runs.{holds_from, holds-of-run}
+use Rattle.laws.proofs.Bits.{le-or-left, le-or-right}
+use Rattle.std.proofs.Common.{Option, Some, None, fold, bit_or}
 use Rattle.utf8.specs.declared.Owed.{Owed}
 use Rattle.utf8.specs.Utf8.{Range, range, follower, nowhere, Sequence, sequences, in_range, rest_of, pays, owing}
 
--- lists of ranges compared, so that antt can compute a whole run of first bytes
+-- Named in docs/PROVING.md: lists of ranges compared, so that antt can compute a whole run of first bytes.
 
 abbrev same : List Range → List Range → Bool
 same [] [] = true
@@ -34,7 +36,8 @@ same→eq (r ∷ rs) (q ∷ qs) t =
     let a : r.first ≡ q.first = eqb-true r.first q.first (T_true _ h.0) in
     let b : r.last ≡ q.last = eqb-true r.last q.last (T_true _ k.0) in
     let e : r ≡ q = ap (λ (x : ℕ). range x r.last) a ∙ ap (range q.first) b in
-    ap (λ (x : Range). x ∷ rs) e ∙ ap (λ (xs : List Range). q ∷ xs) (same→eq rs qs k.1)
+    let rest = same→eq rs qs k.1 in
+    cc
 
 pub rest_of-of-run : (rs : List Range) (first count b : ℕ) → T (holds_from (λ (k : ℕ). same rs (rest_of sequences k)) first count)
     → first ≤ b → b < first + count → rs ≡ rest_of sequences b
@@ -53,7 +56,7 @@ rest_of-past (s ∷ rows) m b t lt =
     let le : s.lead.last ≤ m = leb-true s.lead.last m (T_true _ h.0) in
     rw (within-above s.lead.first s.lead.last b (omega arith)) (rest_of-past rows m b h.1 lt)
 
-pub rest_of-high : (b : ℕ) → 244 < b → nowhere ∷ [] ≡ rest_of sequences b
+rest_of-high : (b : ℕ) → 244 < b → nowhere ∷ [] ≡ rest_of sequences b
 rest_of-high b lt = sym (rest_of-past sequences 244 b tt lt)
 
 -- the turn of the loop
@@ -62,45 +65,44 @@ none-nowhere : (b : ℕ) → in_range nowhere b ≡ false
 none-nowhere zero = refl
 none-nowhere (suc b) = within-above 1 0 (suc b) (omega arith)
 
-pays-nowhere : (rs : List Range) (s : List ℕ) → pays (nowhere ∷ rs) s ≡ false
+pub pays-nowhere : (rs : List Range) (s : List ℕ) → pays (nowhere ∷ rs) s ≡ false
 unfolding pays
 pays-nowhere rs [] = refl
 pays-nowhere rs (b ∷ s) = rw (none-nowhere b)
 
-module _ (o r : Owed) (b : ℕ) (s : List ℕ) where
-  pub pays-lead : o.left ≡ 0 → owing r ≡ rest_of sequences b → pays (owing r) s ≡ pays (owing o) (b ∷ s)
-  unfolding pays
-  pays-lead e is = rw (e, is)
-
+module _ (o : Owed) (b : ℕ) (s : List ℕ) where
   some : (n : ℕ) → (n ≡ 0 → ⊥) → n ≡ suc (n - 1)
   some zero h = absurd (h refl)
   some (suc n) h = ap suc (omega arith)
 
-  pub pays-missed : (o.left ≡ 0 → ⊥) → in_range (range o.low o.high) b ≡ false → r ≡ record { left = 1; low = 1; high = 0 }
-      → pays (owing r) s ≡ pays (owing o) (b ∷ s)
+  pub pays-lead : (r : Option Owed) → o.left ≡ 0 → owing r ≡ rest_of sequences b → pays (owing r) s ≡ pays (owing (Some o)) (b ∷ s)
   unfolding pays
-  pays-missed h out is = rw (is, some o.left h, out) (pays-nowhere [] s)
+  pays-lead r e is = rw (e, is)
 
-  pub pays-next : (o.left ≡ 0 → ⊥) → o.low ≤ b → b ≤ o.high → r ≡ record { left = o.left - 1; low = 128; high = 191 }
-      → pays (owing r) s ≡ pays (owing o) (b ∷ s)
+  pub pays-missed : (o.left ≡ 0 → ⊥) → in_range (range o.low o.high) b ≡ false → pays (owing None) s ≡ pays (owing (Some o)) (b ∷ s)
+  unfolding pays
+  pays-missed h out = rw (some o.left h, out) (pays-nowhere [] s)
+
+  pub pays-next : {r : Option Owed} → (o.left ≡ 0 → ⊥) → o.low ≤ b → b ≤ o.high
+      → r ≡ Some (record { left = o.left - 1; low = 128; high = 191 }) → pays (owing r) s ≡ pays (owing (Some o)) (b ∷ s)
   unfolding pays
   pays-next h low high is = rw is (by o.left h)
     where
-      rest : (n : ℕ) → pays (owing (record { left = n; low = 128; high = 191 })) s ≡ pays (replicate n follower) s
+      rest : (n : ℕ) → pays (owing (Some (record { left = n; low = 128; high = 191 }))) s ≡ pays (replicate n follower) s
       rest zero = refl
       rest (suc n) = refl
 
       by : (n : ℕ) → (n ≡ 0 → ⊥)
-          → pays (owing (record { left = n - 1; low = 128; high = 191 })) s ≡ pays
-          (owing (record { left = n; low = o.low; high = o.high })) (b ∷ s)
+          → pays (owing (Some (record { left = n - 1; low = 128; high = 191 }))) s ≡ pays
+          (owing (Some (record { left = n; low = o.low; high = o.high }))) (b ∷ s)
       by zero h = absurd (h refl)
       by (suc n) h = let e : suc n - 1 ≡ n = omega arith in rw (e, within-inside o.low o.high b low high) (rest n)
 
-pub pays-done : (o : Owed) → eqb o.left 0 ≡ pays (owing o) []
+pub pays-done : (o : Owed) → eqb o.left 0 ≡ pays (owing (Some o)) []
 unfolding pays
 pays-done o = by o.left
   where
-    by : (n : ℕ) → eqb n 0 ≡ pays (owing (record { left = n; low = o.low; high = o.high })) []
+    by : (n : ℕ) → eqb n 0 ≡ pays (owing (Some (record { left = n; low = o.low; high = o.high }))) []
     by zero = refl
     by (suc n) = ne_eqb (suc n) 0 (λ e. omega arith)
 
@@ -151,6 +153,14 @@ bytes-of-pays (r ∷ rs) (b ∷ s) small t (suc k) =
     bytes-of-pays rs s (T_and (leb r.last 255) (byte_ranges rs) small).1 (T_and (in_range r b) (pays rs s) t).1 k
 
 -- an ASCII byte owes nothing
-pub pays-ascii : (b : ℕ) (s : List ℕ) → b < 128 → pays [] (b ∷ s) ≡ pays [] s
+pays-ascii : (b : ℕ) (s : List ℕ) → b < 128 → pays [] (b ∷ s) ≡ pays [] s
 unfolding pays
 pays-ascii b s low = rw (pays, rest_of, within-inside 0 127 b (omega arith) (omega arith))
+
+-- words that are ASCII when they are joined bit by bit, since `|` is no less than either side
+pub joined-ascii : (all : ℕ) (s : List ℕ) → fold (λ a b. bit_or a b) all s < 128 → (all < 128) × (pays [] s ≡ true)
+unfolding pays
+joined-ascii all [] h = (h, refl)
+joined-ascii all (b ∷ s) h =
+    let w = joined-ascii (bit_or all b) s h in
+    (omega (arith, w.0, le-or-left all b), pays-ascii b s (omega (arith, w.0, le-or-right all b)) ∙ w.1)

@@ -1,23 +1,18 @@
 -- The bound on ranks and what else a walk may go on with, kept from step to step (specs/Marks.antt: Ready, RankKept, Kept).
 -- Assumes nothing.
 use mathlib.Core.Path.{◌≡◌, refl, ◌∙◌}
-use mathlib.Core.Logic.{◌⊎◌, inl, inr}
 use mathlib.Core.List.{List}
 use Prim.Native.Nat.{ℕ, ◌+◌, ◌-◌, ◌≤◌, ◌<◌, max}
 use native.Mathlib.Omega.{arith}
 use native.Mathlib.Decide.{ℕ_discrete}
-use mir.Syntax.{w64}
-use mir.Val.{Fits}
 use lib.ListN.{length, get_or, set, replicate, length-set, length-replicate}
 use lib.Seq.{get_or-set_same, get_or-set_other}
-use denote.Enum.Declared.{tag_of}
+use Rattle.std.proofs.Common.{Result, Ok, Err}
 use Rattle.table.specs.declared.Rank.{Rank}
 use Rattle.ranks.specs.Walk.{unstarted}
 use Rattle.ranks.proofs.Marks.{unstarted-le-length, getD-zeros}
 use Rattle.rules.specs.Lawful.{max_entries}
-use Rattle.walk.specs.declared.Walked.{Walked}
-use Rattle.walk.specs.contracts.Walked.{the_type}
-use Rattle.walk.specs.declared.Walked.TheVariants.{Ranked, Ring, Refused}
+use Rattle.walk.specs.declared.Stop.{Stop}
 use Rattle.walk.specs.Marks.{finished, Ready, RankKept, Kept}
 use Rattle.walk.proofs.Laws.Marks.{unstarted-begun, unstarted-finished}
 
@@ -43,9 +38,6 @@ module _ {ms : List ℕ} {d e : ℕ} (h : Fresh ms d e) where
 
   pub depth-few : d + 1 ≤ max_entries
   depth-few = omega (arith, h.ready.room, h.ready.few, fresh-fewer)
-
-  pub depth-fits : Fits w64 (d + 1)
-  depth-fits = record { fits = omega (arith, depth-few) }
 
   pub ready-begun : Ready (set ms e (d + 1)) (d + 1) (d + 1)
   ready-begun = record {
@@ -144,34 +136,10 @@ ready-first n ms q h =
     }
 
 -- by the answer
-pub kept-rank : (a : Walked) (r : Rank) (before after : List ℕ) (d c : ℕ) → a ≡ Ranked r → Kept a before after d c
-    → RankKept before after d (r.0 + c)
-kept-rank a r before after d c p h = rw p at h
+pub kept-stored : (a : Result Rank Stop) (ms l after : List ℕ) (e d k : ℕ) → RankKept ms (set l e (k + finished)) d (k + (d + 1))
+    → ((r : Rank) → a ≡ Ok r → (r.0 ≡ k) × (after ≡ set l e (k + finished))) → Kept a ms after d (d + 1)
+kept-stored (Ok r) ms l after e d k h s = let q = s r refl in rw (q.0, q.1) h
+kept-stored (Err stop) ms l after e d k h s = tt
 
-pub kept-refused : (a : Walked) (b1 b2 l1 l2 : List ℕ) (d1 d2 c1 c2 : ℕ) → tag_of the_type a ≡ 2 → Kept a b1 l1 d1 c1 → Kept a b2 l2 d2 c2
-kept-refused (Ranked k) b1 b2 l1 l2 d1 d2 c1 c2 s h = absurd (omega arith)
-kept-refused (Ring k from n) b1 b2 l1 l2 d1 d2 c1 c2 s h = tt
-kept-refused (Refused e f) b1 b2 l1 l2 d1 d2 c1 c2 s h = tt
-
-pub kept-stop : (a : Walked) (before after : List ℕ) (d c1 c2 : ℕ) → (tag_of the_type a ≡ 1) ⊎ (tag_of the_type a ≡ 2)
-    → Kept a before after d c1 → Kept a before after d c2
-kept-stop (Ranked k) before after d c1 c2 (inl s) h = absurd (omega arith)
-kept-stop (Ranked k) before after d c1 c2 (inr s) h = absurd (omega arith)
-kept-stop (Ring k from n) before after d c1 c2 s h = tt
-kept-stop (Refused e f) before after d c1 c2 s h = tt
-
-pub kept_more : (a : Walked) (ms l after : List ℕ) (d n c : ℕ) → RankKept ms l d n → Kept a l after d c → Kept a ms after d c
-kept_more (Ranked k) ms l after d n c w h = RankKept-trans w h
-kept_more (Ring k from m) ms l after d n c w h = tt
-kept_more (Refused e f) ms l after d n c w h = tt
-
-pub kept-stored : (a : Walked) (ms l after : List ℕ) (e d k : ℕ) → RankKept ms (set l e (k + finished)) d (k + (d + 1))
-    → ((r : Rank) → a ≡ Ranked r → (r.0 ≡ k) × (after ≡ set l e (k + finished))) → Kept a ms after d (d + 1)
-kept-stored (Ranked r) ms l after e d k h s = let q = s r refl in rw (q.0, q.1) h
-kept-stored (Ring x from n) ms l after e d k h s = tt
-kept-stored (Refused x f) ms l after e d k h s = tt
-
-pub ready-again : (a : Walked) (before after : List ℕ) → tag_of the_type a ≡ 0 → Kept a before after 0 1 → Ready after 0 0
-ready-again (Ranked r) before after s h = record { few = h.ready.few; room = omega (arith, h.ready.room); low = h.ready.low }
-ready-again (Ring k from n) before after s h = absurd (omega arith)
-ready-again (Refused e f) before after s h = absurd (omega arith)
+pub ready-again : (k : ℕ) {before after : List ℕ} → RankKept before after 0 (k + 1) → Ready after 0 0
+ready-again k h = record { few = h.ready.few; room = omega (arith, h.ready.room); low = h.ready.low }

@@ -1,15 +1,15 @@
 -- Laws of the walk's definitions in the code's own terms, one for each way through `finish`, `resolve_entry` and `resolve_stretch`.
 -- Assumes nothing.
 use mathlib.Core.Path.{◌≡◌, refl, sym, ap, ◌∙◌}
-use mathlib.Core.Logic.{◌⊎◌, inl, inr}
 use mathlib.Core.Bool.{true, false}
 use mathlib.Core.List.{List, [], ◌∷◌, ◌++◌}
 use Prim.Native.Nat.{ℕ, zero, suc, ◌+◌, ◌-◌, ◌≤◌, ◌<◌, max}
 use native.Mathlib.Omega.{arith}
-use lib.ListN.{length, get_or, set, take, drop}
+use lib.ListN.{length, get_or, set, drop, drop_of_length-le}
+use lib.Seq.{drop-cons}
+use native.Mathlib.Numerals.{add-one}
+use Rattle.std.proofs.Common.{Result, Ok, Err, is_ok}
 use borrow.Author.Tests.{lt-ltb, le-ltb}
-use denote.Enum.Declared.{tag_of}
-use Rattle.laws.proofs.Stretches.{stretch-cons}
 use Rattle.table.specs.Buffers.{zeros}
 use Rattle.table.specs.declared.Rank.{Rank}
 use Rattle.ranks.specs.Table.{Table, Verdict, kept, broken}
@@ -18,34 +18,32 @@ use Rattle.ranks.specs.Walk.{Out, out, from, on_rank, and_then, by_mark, judged,
 use Rattle.rules.specs.Lawful.{max_entries}
 use Rattle.walk.specs.declared.Fault.{Fault}
 use Rattle.walk.specs.declared.Fault.TheVariants.{OutOfRange}
-use Rattle.walk.specs.declared.Judged.{Judged}
-use Rattle.walk.specs.declared.Judged.TheVariants.{Kept, Broken}
-use Rattle.walk.specs.declared.Walked.{Walked}
-use Rattle.walk.specs.contracts.Walked.{the_type}
-use Rattle.walk.specs.declared.Walked.TheVariants.{Ranked, Ring, Refused}
+use Rattle.walk.specs.declared.Stop.{Stop}
+use Rattle.walk.specs.declared.Stop.TheVariants.{Ring, Refused}
 use Rattle.walk.specs.Answers.{number_in, detail_in, verdict_of}
-use Rattle.walk.specs.Marks.{finished, plain, plainly, Path, RingShown, Shows, Finished}
+use Rattle.walk.specs.Marks.{finished, plain, plainly, Path, RingShown, Stopped, Shows, Finished}
 use Rattle.walk.proofs.Laws.Marks.{plain-new, plain-begun, plain-ranked, plain-finished, getD-plainly, set-plainly}
 use Rattle.walk.proofs.Laws.Marks.{unstarted-begun, from-path}
 use Rattle.walk.proofs.Laws.Rings.{ring-met}
 
 -- the own rule
-module _ (ms : List ℕ) (e : ℕ) (rank : Rank) (v : Verdict) (j : Judged) (says : verdict_of j ≡ v) where
-  pub finish-kept : j ≡ Kept → Finished ms (set ms e (rank.0 + finished)) e rank.0 (Ranked rank) (judged v e (plainly ms) rank.0)
-  finish-kept q =
-      let fine : v ≡ kept = sym says ∙ ap verdict_of q in
-      record {
-        shows = λ p. rw (fine, set-plainly ms e (rank.0 + finished) (rank.0 + 2) (plain-finished rank.0));
-        stored = λ r same. let s : rank ≡ r = cc in (ap (λ (x : Rank). x.0) (sym s), refl);
-      }
+pub verdict_of-ok : (r : Result Unit Fault) → is_ok r ≡ true → verdict_of r ≡ kept
+verdict_of-ok (Ok u) h = refl
+verdict_of-ok (Err f) h = cc
 
-  pub finish-broken : (f : Fault) → j ≡ Broken f → Finished ms ms e rank.0 (Refused e f) (judged v e (plainly ms) rank.0)
-  finish-broken f q =
-      let bad : v ≡ broken (number_in f) (detail_in f) = sym says ∙ ap verdict_of q in
-      record { shows = λ p. rw bad; stored = λ r same. absurd (never r same) }
-    where
-      never : (r : Rank) → Refused e f ≡ Ranked r → ⊥
-      never r same = let z : ◌≡◌ {A = ℕ} 0 1 = cc in omega arith
+pub finish-kept : (ms : List ℕ) (e : ℕ) (rank : Rank) (v : Verdict) → v ≡ kept
+    → Finished ms (set ms e (rank.0 + finished)) e rank.0 (Ok rank) (judged v e (plainly ms) rank.0)
+finish-kept ms e rank v fine = record {
+  shows = λ p. rw (fine, set-plainly ms e (rank.0 + finished) (rank.0 + 2) (plain-finished rank.0));
+  stored = λ r same. let s : rank ≡ r = cc in (ap (λ (x : Rank). x.0) (sym s), refl);
+}
+
+-- Named in docs/TRACE.md.
+pub finish-broken : (ms : List ℕ) (e : ℕ) (rank : Rank) (v : Verdict) (j : Result Unit Fault) → verdict_of j ≡ v → (f : Fault) → j ≡ Err f
+    → Finished ms ms e rank.0 (Err (Refused e f)) (judged v e (plainly ms) rank.0)
+finish-broken ms e rank v j says f q =
+    let bad : v ≡ broken (number_in f) (detail_in f) = sym says ∙ ap verdict_of q in
+    record { shows = λ p. rw bad; stored = λ r same. absurd cc }
 
 -- an answer that is no rank stops a walk
 and_then-ring : (o : Out) (next : List ℕ → ℕ → Out) (ring : List ℕ) → o.answer ≡ ranks.Ring ring → (and_then o next).answer ≡ ranks.Ring ring
@@ -70,25 +68,10 @@ ring-onward p l k from n o next h = record {
   content = h.content;
 }
 
-pub shows-stop : (p l : List ℕ) (a : Walked) (o : Out) (next : List ℕ → ℕ → Out) → (tag_of the_type a ≡ 1) ⊎ (tag_of the_type a ≡ 2)
-    → Shows p l a o → Shows p l a (and_then o next)
-shows-stop p l (Ranked k) o next (inl s) h = absurd (omega arith)
-shows-stop p l (Ranked k) o next (inr s) h = absurd (omega arith)
-shows-stop p l (Ring k from n) o next s h = ring-onward p l k from n o next h
-shows-stop p l (Refused e f) o next s h = and_then-bad o next (number_in f) e (detail_in f) h
-
--- a refusal is the same below any path
-pub shows-refused : (p q l : List ℕ) (a : Walked) (o : Out) → tag_of the_type a ≡ 2 → Shows p l a o → Shows q l a o
-shows-refused p q l (Ranked k) o s h = absurd (omega arith)
-shows-refused p q l (Ring k from n) o s h = absurd (omega arith)
-shows-refused p q l (Refused e f) o s h = h
-
-pub shows-rank : (p l : List ℕ) (a : Walked) (r : Rank) (o : Out) → a ≡ Ranked r → Shows p l a o → o ≡ out (plainly l) (ranks.Rank r.0)
-shows-rank p l a r o q h = rw q at h
-
-pub shows-ring : (p l : List ℕ) (a : Walked) (k from n : ℕ) (o : Out) → a ≡ Ring k from n → Shows p l a o
-    → RingShown p l k from n o.answer
-shows-ring p l a k from n o q h = rw q at h
+pub stop-onward : (p l : List ℕ) (stop : Stop) (o : Out) (next : List ℕ → ℕ → Out) → Stopped p l stop o.answer
+    → Stopped p l stop (and_then o next).answer
+stop-onward p l (Ring k from n) o next h = ring-onward p l k from n o next h
+stop-onward p l (Refused e f) o next h = and_then-bad o next (number_in f) e (detail_in f) h
 
 by_ranked : (m : ℕ) (a b : Out) (done : ℕ → Out) → max_entries < m → by_mark (plain m) a b done ≡ done (m - finished)
 by_ranked m a b done h = let s : plain m ≡ suc (suc (m - finished)) = omega (arith, plain-ranked m h) in rw s
@@ -99,7 +82,7 @@ by-begun m a b done n h = rw (plain-begun m n h)
 module _ (t : Table) (p ms : List ℕ) (e : ℕ) where
   -- an entry that is finished
   pub entry-ranked : (r : Rank) → r.0 ≡ get_or ms e 0 - finished → max_entries < get_or ms e 0 → (f : ℕ)
-      → Shows p ms (Ranked r) (entry f t p (plainly ms) e)
+      → Shows p ms (Ok r) (entry f t p (plainly ms) e)
   unfolding entry
   entry-ranked r q big zero = rw (getD-plainly ms e, q) (by_ranked (get_or ms e 0) _ _ (λ k. out (plainly ms) (ranks.Rank k)) big)
   entry-ranked r q big (suc f) = rw (getD-plainly ms e, q) (by_ranked (get_or ms e 0) _ _ (λ k. out (plainly ms) (ranks.Rank k)) big)
@@ -113,7 +96,7 @@ module _ (t : Table) (p ms : List ℕ) (e : ℕ) where
 
   pub entry-again : (d : ℕ) (l : List ℕ) (len : ℕ) → (get_or ms e 0 ≡ 0 → ⊥) → get_or ms e 0 ≤ max_entries → length p ≡ d → d ≤ length ms
       → Path p ms
-      → l ≡ zeros (length ms) → len ≡ d - (get_or ms e 0 - 1) → (f : ℕ) → Shows p l (Ring e (get_or ms e 0 - 1) len)
+      → l ≡ zeros (length ms) → len ≡ d - (get_or ms e 0 - 1) → (f : ℕ) → Shows p l (Err (Ring e (get_or ms e 0 - 1) len))
       (entry f t p (plainly ms) e)
   entry-again d l len n few size le path cleared long f =
       let some : 0 < get_or ms e 0 = positive (get_or ms e 0) n in
@@ -137,43 +120,40 @@ module _ (t : Table) (p ms : List ℕ) (e : ℕ) where
       let put = set-plainly ms e (d + 1) 1 (plain-begun (d + 1) (λ z. omega arith) few) in
       (f, omega arith, rw (at, put))
 
-module _ (t : Table) (g : List ℕ → ℕ → Out) (p ms : List ℕ) (e best : ℕ) (refs : List ℕ) (at left : ℕ) where
-  pub stretch-none : (r : Rank) → r.0 ≡ best → left ≡ 0
-      → Shows p ms (Ranked r) (stretch t g e (plainly ms) best (take left (drop at refs)))
+module _ (t : Table) (g : List ℕ → ℕ → Out) (p ms : List ℕ) (e best : ℕ) (rs : List ℕ) (i : ℕ) where
+  pub stretch-none : (r : Rank) → r.0 ≡ best → length rs ≤ i → Shows p ms (Ok r) (stretch t g e (plainly ms) best (drop i rs))
   unfolding stretch
-  stretch-none r q h = rw (h, q)
+  stretch-none r q h = rw (drop_of_length-le rs {i = i} h, q)
 
-  module _ (some : left ≡ 0 → ⊥) (inside : at + left ≤ length refs) where
-    cons : take left (drop at refs) ≡ get_or refs at 0 ∷ take (left - 1) (drop (at + 1) refs)
-    cons = stretch-cons left at refs (omega arith) inside
+  module _ (lt : i < length rs) where
+    cons : drop i rs ≡ get_or rs i 0 ∷ drop (i + 1) rs
+    cons = rw add-one (drop-cons rs i 0 lt)
 
-    pub stretch-range : t.count ≤ get_or refs at 0 → Shows p ms (Refused e (OutOfRange (get_or refs at 0)))
-        (stretch t g e (plainly ms) best (take left (drop at refs)))
+    pub stretch-range : t.count ≤ get_or rs i 0 → Shows p ms (Err (Refused e (OutOfRange (get_or rs i 0))))
+        (stretch t g e (plainly ms) best (drop i rs))
     unfolding stretch
     stretch-range past = rw (cons, le-ltb _ _ past)
 
-    module _ (lt : get_or refs at 0 < t.count) where
-      pub stretch-past : t.counts e (get_or refs at 0) ≡ false
-          → stretch t g e (plainly ms) best (take left (drop at refs)) ≡ stretch t g e (plainly ms) best
-          (take (left - 1) (drop (at + 1) refs))
+    module _ (inside : get_or rs i 0 < t.count) where
+      pub stretch-past : t.counts e (get_or rs i 0) ≡ false
+          → stretch t g e (plainly ms) best (drop i rs) ≡ stretch t g e (plainly ms) best (drop (i + 1) rs)
       unfolding stretch
-      stretch-past c = rw (cons, lt-ltb _ _ lt, c)
+      stretch-past c = rw (cons, lt-ltb _ _ inside, c)
 
-      module _ (counted : t.counts e (get_or refs at 0) ≡ true) where
+      module _ (counted : t.counts e (get_or rs i 0) ≡ true) where
         more : List ℕ → ℕ → Out
-        more l k = stretch t g e l (max best (k + 1)) (take (left - 1) (drop (at + 1) refs))
+        more l k = stretch t g e l (max best (k + 1)) (drop (i + 1) rs)
 
-        first : stretch t g e (plainly ms) best (take left (drop at refs)) ≡ and_then (g (plainly ms) (get_or refs at 0)) more
+        first : stretch t g e (plainly ms) best (drop i rs) ≡ and_then (g (plainly ms) (get_or rs i 0)) more
         unfolding stretch more
-        first = rw (cons, lt-ltb _ _ lt, counted)
+        first = rw (cons, lt-ltb _ _ inside, counted)
 
-        pub stretch-stops : (l : List ℕ) (a : Walked) → (tag_of the_type a ≡ 1) ⊎ (tag_of the_type a ≡ 2)
-            → Shows p l a (g (plainly ms) (get_or refs at 0)) → Shows p l a (stretch t g e (plainly ms) best (take left (drop at refs)))
-        stretch-stops l a s h = rw first (shows-stop p l a (g (plainly ms) (get_or refs at 0)) more s h)
+        pub stretch-stops : (l : List ℕ) (stop : Stop) → Shows p l (Err stop) (g (plainly ms) (get_or rs i 0))
+            → Shows p l (Err stop) (stretch t g e (plainly ms) best (drop i rs))
+        stretch-stops l stop h = rw first (stop-onward p l stop (g (plainly ms) (get_or rs i 0)) more h)
 
-        pub stretch-goes : (l : List ℕ) (a : Walked) (r : Rank) (next : ℕ) → a ≡ Ranked r → next ≡ max best (r.0 + 1)
-            → Shows p l a (g (plainly ms) (get_or refs at 0))
-            → stretch t g e (plainly ms) best (take left (drop at refs)) ≡ stretch t g e (plainly l) next
-            (take (left - 1) (drop (at + 1) refs))
+        pub stretch-goes : (l : List ℕ) (r : Rank) (next : ℕ) → next ≡ max best (r.0 + 1)
+            → Shows p l (Ok r) (g (plainly ms) (get_or rs i 0))
+            → stretch t g e (plainly ms) best (drop i rs) ≡ stretch t g e (plainly l) next (drop (i + 1) rs)
         unfolding more
-        stretch-goes l a r next q m h = first ∙ rw (shows-rank p l a r (g (plainly ms) (get_or refs at 0)) q h, m)
+        stretch-goes l r next m h = first ∙ rw (h, m)

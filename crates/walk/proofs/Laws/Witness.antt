@@ -8,21 +8,17 @@ use native.Mathlib.Omega.{arith}
 use lib.Dec.{ltb, leb}
 use borrow.Author.Tests.{ltb-true, ltb-false, leb-true, leb-false}
 use lib.ListN.{length, take, drop, length-map, length-append, replicate-append-replicate}
-use denote.Enum.Declared.{tag_of}
+use Rattle.std.proofs.Common.{Result, Ok, Err}
 use Rattle.table.specs.Buffers.{zeros, padded}
 use Rattle.table.proofs.Laws.Buffers.{length-zeros, take-zeros, drop-zeros, padded-none}
-use Rattle.ranks.specs.Walk as ranks
 use Rattle.ranks.specs.Walk.{resolve, ranks_of}
 use Rattle.rules.specs.Lawful.{max_entries, table_of}
 use Rattle.walk.specs.declared.Fault.{Fault}
-use Rattle.walk.specs.declared.Resolution.{Resolution}
-use Rattle.walk.specs.declared.Resolution.TheVariants.{Accepted, Refused, Cycle}
-use Rattle.walk.specs.declared.Walked.{Walked}
-use Rattle.walk.specs.contracts.Walked.{the_type}
-use Rattle.walk.specs.declared.Walked.TheVariants as walked
-use Rattle.walk.specs.Answers.{number_in, detail_in}
+use Rattle.walk.specs.declared.Error.{Error}
+use Rattle.walk.specs.declared.Error.TheVariants.{Refused, Cycle}
+use Rattle.walk.specs.declared.Stop.TheVariants as stop
 use Rattle.walk.specs.Resolve.{entries_of, witness_in, Resolves}
-use Rattle.walk.specs.Marks.{plain, plainly, ranked, RingShown, Shows}
+use Rattle.walk.specs.Marks.{plain, plainly, ranked, Upward}
 use Rattle.walk.proofs.Laws.Marks.{plain-new, plain-begun, plain-ranked}
 use Rattle.walk.proofs.Laws.Rings.{ring-whole}
 
@@ -44,33 +40,28 @@ padded-whole : (xs : List ℕ) (n : ℕ) → length xs ≡ n → padded n xs ≡
 unfolding padded
 padded-whole xs n h = let z : n - length xs ≡ 0 = omega arith in rw (z, append-nil)
 
-module _ (rows refs : List ℕ) (n : ℕ) (l : List ℕ) (a : Walked) (len : length l ≡ n) (h : Shows [] l a (resolve (table_of rows refs n)))
-  where
-    pub resolves-accepted : tag_of the_type a ≡ 0 → (w : List ℕ) → w ≡ map ranked l → Resolves rows refs n n Accepted w
-    resolves-accepted s w is = go a s h
-      where
-        go : (a : Walked) → tag_of the_type a ≡ 0 → Shows [] l a (resolve (table_of rows refs n)) → Resolves rows refs n n Accepted w
-        go (walked.Ranked r) s h = record {
-          answer = rw h;
-          content = is ∙ rw (h, ranks_of-plainly l) (sym (padded-whole (map ranked l) n (length-map l ranked ∙ len)));
-        }
-        go (walked.Ring k from m) s h = absurd (omega arith)
-        go (walked.Refused e f) s h = absurd (omega arith)
+module _ (rows refs : List ℕ) (n : ℕ) (l : List ℕ) (len : length l ≡ n) where
+  pub resolves-accepted : Upward l (Ok tt) (resolve (table_of rows refs n)) → (w : List ℕ) → w ≡ map ranked l
+      → Resolves rows refs n n (Ok tt) w
+  resolves-accepted h w is = record {
+    answer = rw h;
+    content = is ∙ rw (h, ranks_of-plainly l) (sym (padded-whole (map ranked l) n (length-map l ranked ∙ len)));
+  }
 
-    pub resolves-cycle : (k from m : ℕ) → a ≡ walked.Ring k from m → Resolves rows refs n n (Cycle k m) l
-    resolves-cycle k from m q =
-        let r : RingShown [] l k from m (resolve (table_of rows refs n)).answer = rw q at h in
-        let w = ring-whole l k from m (resolve (table_of rows refs n)).answer r in
-        record {
-          answer = rw (w.1, w.2, w.3);
-          content = rw w.1 (rw len at w.4);
-        }
+  -- Named in docs/TRACE.md.
+  pub resolves-cycle : (k from m : ℕ) → Upward l (Err (stop.Ring k from m)) (resolve (table_of rows refs n))
+      → Resolves rows refs n n (Err (Cycle k m)) l
+  resolves-cycle k from m h =
+      let w = ring-whole l k from m (resolve (table_of rows refs n)).answer h in
+      record {
+        answer = rw (w.1, w.2, w.3);
+        content = rw w.1 (rw len at w.4);
+      }
 
-    pub resolves-refused : (e : ℕ) (f : Fault) → a ≡ walked.Refused e f → (w : List ℕ) → w ≡ zeros (length l)
-        → Resolves rows refs n n (Refused e f) w
-    resolves-refused e f q w is =
-        let b : (resolve (table_of rows refs n)).answer ≡ ranks.Bad (number_in f) e (detail_in f) = rw q at h in
-        record { answer = rw b; content = is ∙ rw (b, len) (sym (padded-none n)) }
+  pub resolves-refused : (e : ℕ) (f : Fault) → Upward l (Err (stop.Refused e f)) (resolve (table_of rows refs n))
+      → (w : List ℕ) → w ≡ zeros (length l) → Resolves rows refs n n (Err (Refused e f)) w
+  resolves-refused e f h w is =
+      record { answer = rw h; content = is ∙ rw (h, len) (sym (padded-none n)) }
 
 -- a longer witness
 padded-longer : (xs : List ℕ) (n room : ℕ) → length xs ≤ n → n ≤ room → padded n xs ++ zeros (room - n) ≡ padded room xs
@@ -83,7 +74,7 @@ padded-short : (xs : List ℕ) (n : ℕ) → length (padded n xs) ≡ n → leng
 unfolding padded
 padded-short xs n h = let w = simp length-append at h in omega arith
 
-pub resolves-longer : (rows refs : List ℕ) (n room : ℕ) (r : Resolution) (last all : List ℕ) → Resolves rows refs n n r last
+pub resolves-longer : (rows refs : List ℕ) (n room : ℕ) (r : Result Unit Error) (last all : List ℕ) → Resolves rows refs n n r last
     → length last ≡ n → n ≤ room
     → all ≡ last ++ zeros (room - n) → Resolves rows refs n room r all
 resolves-longer rows refs n room r last all h len le is =
@@ -112,7 +103,7 @@ module _ (count words room n : ℕ) (z : List ℕ) (asked : n ≡ entries_of cou
   pub lent-fresh : take n z ≡ zeros (length (take n z))
   lent-fresh = rw lent_length part
 
-  pub resolves-lent : (rows refs : List ℕ) (r : Resolution) (last : List ℕ) → Resolves rows refs (length (take n z))
+  pub resolves-lent : (rows refs : List ℕ) (r : Result Unit Error) (last : List ℕ) → Resolves rows refs (length (take n z))
       (length (take n z)) r last → length last ≡ length (take n z)
       → Resolves rows refs (entries_of count words room) room r (last ++ drop n z)
   resolves-lent rows refs r last h len =

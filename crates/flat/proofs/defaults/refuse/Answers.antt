@@ -5,4 +5,4 @@ use Rattle.flat.proofs.Laws.Start.{refused-reads}
 use Rattle.flat.proofs.defaults.refuse.Goals as goal
 
 pub returns : goal.returns
-returns c = refused-reads c.args.answer c.args.out.now _ (search rules) c.start.ensures
+returns c = refused-reads c.args.error c.args.out.now _ (search rules) c.start.ensures

@@ -1,81 +1,62 @@
 -- `flat::lists::put_row` meets its contract: in the place of a row, behind all rows, or no more room for one. Each is a law of
 -- Laws/Among.antt.
 -- Assumes nothing.
-use mathlib.Core.Path.{◌≡◌, refl, ap, ◌∙◌}
-use mathlib.Core.Bool.{Bool}
-use mathlib.Core.List.{List, [], ◌∷◌}
-use Prim.Native.Nat.{ℕ, ◌+◌, ◌-◌, ◌*◌}
+use mathlib.Core.Path.{refl, ◌∙◌}
+use Prim.Native.Nat.{◌+◌}
 use native.Mathlib.Omega.{arith}
-use lib.ListN.{length, get_or, take, drop, length-set}
-use Rattle.layout.specs.Rows.{place_of}
-use Rattle.flat.specs.Moves.{EachWide, same_key}
-use Rattle.flat.specs.Held.{Rows}
-use Rattle.flat.specs.Words.{run_of}
-use Rattle.flat.proofs.Laws.Among.{place-key, Rows-bounds, Rows-count, Rows-slice, Rows-whole}
-use Rattle.flat.proofs.Laws.Among.{at-within, at-whole, replaced, full, appended}
+use lib.ListN.{get_or, length-set}
+use Rattle.flat.specs.Moves.{same_key}
+use Rattle.flat.proofs.Laws.Among.{Rows-bounds, Rows-count, Rows-found}
+use Rattle.flat.proofs.Laws.Among.{at-whole, replaced, full, appended}
 use Rattle.flat.proofs.lists.put_row.Goals as goal
 
--- the place that was found, for any rows that lie there
-found-is : {x y out : List ℕ} {rows : List (List ℕ)} {from behind end most : ℕ} (row : List ℕ) (both : Bool) (place : ℕ)
-    → Rows x rows y out from behind end (length row) most
-    → ((rows : List (List ℕ)) → EachWide (length row) rows
-    → take (behind - (from + 1)) (drop (from + 1) out) ≡ run_of (λ (row : List ℕ). row) rows
-    → place ≡ place_of (same_key both) (get_or row 0 0 ∷ get_or row 1 0 ∷ []) rows * length row)
-    → from + 1 + place ≡ from + 1 + place_of (same_key both) row rows * length row
-found-is {rows = rows} {from = from} row both place are search =
-    let e = search rows are.each (Rows-slice are) in
-    ap (λ (n : ℕ). from + 1 + n) (e ∙ ap (λ (n : ℕ). n * length row) (place-key both row rows))
-
-pub slice_bounds-place-end : goal.slice_bounds-place-end
-slice_bounds-place-end c = omega (arith, Rows-bounds c.requires.rows.are)
-
-pub place-requires : goal.place-requires
-place-requires c = record { wide = c.requires.wide; whole = Rows-whole c.requires.rows.are }
+pub overflow_mul-at : goal.overflow_mul-at
+overflow_mul-at g c =
+    let are = c.requires.rows.are in
+    let hit = Rows-found are (same_key c.args.both c.args.row.now) _ g.row.WIDE c.told-row (omega (arith, c.requires.wide)) c.find.ensures ∙ c.in-Some.is in
+    let whole = at-whole c.args.row.now c.args.both are c.in-Some.i g.row.WIDE c.told-row hit in
+    record { fits = omega (arith, whole) }
 
 pub overflow_add-at : goal.overflow_add-at
-overflow_add-at c =
+overflow_add-at g c =
     let are = c.requires.rows.are in
-    let row = c.args.row.now in
-    let is = found-is row c.args.both c.place.result are c.place.ensures in
-    omega (arith, at-within row c.args.both are (c.args.from + 1 + c.place.result) is)
+    let hit =
+    Rows-found are (same_key c.args.both c.args.row.now) _ g.row.WIDE c.told-row (omega (arith, c.requires.wide)) c.find.ensures
+    ∙ c.in-Some.is in
+    let whole = at-whole c.args.row.now c.args.both are c.in-Some.i g.row.WIDE c.told-row hit in
+    omega (arith, whole)
 
-pub overflow_add-at-then-at-behind : goal.overflow_add-at-then-at-behind
-overflow_add-at-then-at-behind c =
+pub overflow_add-at-in-Some : goal.overflow_add-at-in-Some
+overflow_add-at-in-Some g c =
     let are = c.requires.rows.are in
-    let row = c.args.row.now in
-    let is = found-is row c.args.both c.place.result are c.place.ensures in
-    omega (arith, at-whole row c.args.both are (c.args.from + 1 + c.place.result) is c.if-at-behind.true)
+    let hit = Rows-found are (same_key c.args.both c.args.row.now) _ g.row.WIDE c.told-row (omega (arith, c.requires.wide)) c.find.ensures ∙ c.in-Some.is in
+    let whole = at-whole c.args.row.now c.args.both are c.in-Some.i g.row.WIDE c.told-row hit in
+    omega (arith, whole)
 
 pub replace-requires : goal.replace-requires
-replace-requires c =
+replace-requires g c =
     let are = c.requires.rows.are in
-    let row = c.args.row.now in
-    let is = found-is row c.args.both c.place.result are c.place.ensures in
-    let whole = at-whole row c.args.both are (c.args.from + 1 + c.place.result) is c.if-at-behind.true in
+    let hit = Rows-found are (same_key c.args.both c.args.row.now) _ g.row.WIDE c.told-row (omega (arith, c.requires.wide)) c.find.ensures ∙ c.in-Some.is in
+    let whole = at-whole c.args.row.now c.args.both are c.in-Some.i g.row.WIDE c.told-row hit in
     let bounds = Rows-bounds are in
-    (omega arith, omega (arith, whole, bounds), omega (arith, bounds), omega (arith, whole, bounds))
+    (omega arith, omega (arith, whole, bounds), omega (arith, bounds), omega (arith, whole, bounds, c.told-row))
 
-pub returns-then-at-behind : goal.returns-then-at-behind
-returns-then-at-behind c =
+pub returns-in-Some : goal.returns-in-Some
+returns-in-Some g c =
     let row = c.args.row.now in
-    λ x rows y are. replaced row c.args.both are (c.args.from + 1 + c.place.result)
-    (found-is row c.args.both c.place.result are c.place.ensures) c.if-at-behind.true _ c.replace.ensures
+    λ x rows y are. replaced row c.args.both are c.in-Some.i g.row.WIDE c.told-row
+    (Rows-found are (same_key c.args.both row) _ g.row.WIDE c.told-row (omega (arith, c.requires.wide)) c.find.ensures ∙ c.in-Some.is)
+    _ c.replace.ensures
 
-pub bounds-out-from : goal.bounds-out-from
-bounds-out-from c = omega (arith, Rows-bounds c.requires.rows.are)
-
-pub returns-then-most-count : goal.returns-then-most-count
-returns-then-most-count c =
+pub returns-then-most-out : goal.returns-then-most-out
+returns-then-most-out g c =
     let row = c.args.row.now in
-    λ x rows y are. full row c.args.both are (c.args.from + 1 + c.place.result)
-    (found-is row c.args.both c.place.result are c.place.ensures) (omega arith) (omega (arith, c.requires.wide))
+    λ x rows y are. full row c.args.both are
+    (Rows-found are (same_key c.args.both row) _ g.row.WIDE c.told-row (omega (arith, c.requires.wide)) c.find.ensures ∙ c.in_default.is)
     (omega arith) _
 
-pub bounds-out-from-2 : goal.bounds-out-from-2
-bounds-out-from-2 c = omega (arith, Rows-bounds c.requires.rows.are)
-
 pub replace-requires-2 : goal.replace-requires-2
-replace-requires-2 c =
+replace-requires-2 g c =
     let are = c.requires.rows.are in
     let bounds = Rows-bounds are in
     let out = c.args.out.now in
@@ -84,13 +65,8 @@ replace-requires-2 c =
     (omega arith, omega (arith, bounds), omega (arith, bounds, long), omega (arith, bounds, long, more))
 
 pub returns : goal.returns
-returns c =
+returns g c =
     let row = c.args.row.now in
-    λ x rows y are. appended row c.args.both are (c.args.from + 1 + c.place.result)
-    (found-is row c.args.both c.place.result are c.place.ensures) (omega arith) (omega (arith, c.requires.wide))
-    (omega arith) _ _ refl c.replace-2.ensures
-
-pub shape_of-out : goal.shape_of-out
-shape_of-out c =
-    let out = c.args.out.now in
-    c.replace-2.auto.out ∙ length-set out c.args.from (get_or out c.args.from 0 + 1)
+    λ x rows y are. appended row c.args.both are
+    (Rows-found are (same_key c.args.both row) _ g.row.WIDE c.told-row (omega (arith, c.requires.wide)) c.find.ensures ∙ c.in_default.is)
+    c.if-most-out.false _ _ refl c.replace-2.ensures

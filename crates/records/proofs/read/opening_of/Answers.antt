@@ -1,35 +1,33 @@
 -- `records::read::opening_of` meets its contract: what was seen of the stream, by cases. Assumes nothing.
 use mathlib.Core.Path.{◌≡◌, ap, ◌∙◌}
+use native.Mathlib.Omega.{arith}
+use Prim.Native.Nat.{ℕ}
+use Rattle.std.proofs.Common.{Result}
+use Rattle.std.proofs.lemmas.Result.{err_from_is_err_and}
 use Rattle.stream.specs.declared.Survey.{Survey}
-use Rattle.records.specs.declared.Answer.TheVariants.{CutRecord, NoSingleCount}
-use Rattle.records.specs.declared.Opening.{Opening}
-use Rattle.records.specs.declared.Opening.TheVariants.{Fine, Bad}
+use Rattle.records.specs.declared.Error.{Error}
 use Rattle.records.specs.Held.{opening_of}
 use Rattle.records.proofs.read.opening_of.Goals as goal
 
-abbrev opened : Survey → Opening
+abbrev opened : Survey → Result ℕ Error
 opened s = opening_of s.frame s.stated
 
-pub returns-in-CutAt : goal.returns-in-CutAt
-returns-in-CutAt c =
+pub returns-in_err-survey : goal.returns-in_err-survey
+returns-in_err-survey c =
     let call = c.survey_of-survey in
-    let refuses : Bad (CutRecord c.in-CutAt.head) ≡ opened call.result = rw c.in-CutAt.is in
+    let p = err_from_is_err_and c.from_residual.result c.from_residual.ensures.1 in
+    let refuses : c.from_residual.result ≡ opened call.result = grind arith in
     refuses ∙ ap opened call.ensures
 
-pub returns-in-Nothing : goal.returns-in-Nothing
-returns-in-Nothing c =
+pub returns-in_err-survey-2 : goal.returns-in_err-survey-2
+returns-in_err-survey-2 c =
     let call = c.survey_of-survey in
-    let refuses : Bad NoSingleCount ≡ opened call.result = rw (c.in-Whole.is, c.in-Nothing.is) in
+    let p = err_from_is_err_and c.from_residual-in_err-survey-2.result c.from_residual-in_err-survey-2.ensures.1 in
+    let refuses : c.from_residual-in_err-survey-2.result ≡ opened call.result = grind arith in
     refuses ∙ ap opened call.ensures
 
-pub returns-in-Count : goal.returns-in-Count
-returns-in-Count c =
+pub returns : goal.returns
+returns c =
     let call = c.survey_of-survey in
-    let opens : Fine c.in-Count.count ≡ opened call.result = rw (c.in-Whole.is, c.in-Count.is) in
+    let opens : c.ok_or.result ≡ opened call.result = grind arith in
     opens ∙ ap opened call.ensures
-
-pub returns-in-Faulty : goal.returns-in-Faulty
-returns-in-Faulty c =
-    let call = c.survey_of-survey in
-    let refuses : Bad NoSingleCount ≡ opened call.result = rw (c.in-Whole.is, c.in-Faulty.is) in
-    refuses ∙ ap opened call.ensures

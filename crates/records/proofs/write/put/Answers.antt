@@ -7,20 +7,19 @@ use lib.ListN.{take, drop}
 use Rattle.records.proofs.Laws.Turn.{After-full, After-put}
 use Rattle.records.proofs.write.put.Goals as goal
 
-pub returns-then-has_room-clause-after : goal.returns-then-has_room-clause-after
-returns-then-has_room-clause-after c =
+pub returns-then-not-has_room-clause-after : goal.returns-then-not-has_room-clause-after
+returns-then-not-has_room-clause-after c =
     let a = c.args in
-    let n : a.p.from + a.p.more - a.p.from ≡ a.p.more = omega arith in
-    let room = sym c.has_room.ensures ∙ c.if-has_room.true in
-    λ b t z front e held is nz P. After-put b t a.rows.now a.refs.now z held a.fields.now a.p front e P
-    c.requires.1.inside a.entries a.f is _ _ refl nz room c.requires.0.rows_hold _ _ _ _ _
-    c.grow-next.ensures
-    c.row_of.ensures
-    (ap (λ (k : ℕ). take k (drop a.p.from a.fields.now)) n)
-    c.put_row.ensures c.put_words.ensures
+    λ b t z front e held is nz P. After-full b t a.rows.now a.refs.now z held a.fields.now a.p front e P
+    c.requires.1.inside a.entries a.f is _ _ refl nz (sym c.has_room.ensures ∙ c.if-not-has_room.true)
 
 pub returns-clause-after : goal.returns-clause-after
 returns-clause-after c =
     let a = c.args in
-    λ b t z front e held is nz P. After-full b t a.rows.now a.refs.now z held a.fields.now a.p front e P
-    c.requires.1.inside a.entries a.f is _ _ refl nz (sym c.has_room.ensures ∙ c.if-has_room.false)
+    let n : a.p.from + a.p.more - a.p.from ≡ a.p.more = omega arith in
+    λ b t z front e held is nz P. After-put b t a.rows.now a.refs.now z held a.fields.now a.p front e P
+    c.requires.1.inside a.entries a.f is _ _ refl nz (sym c.has_room.ensures ∙ c.if-not-has_room.false) c.requires.0.rows_hold _ _ _ _ _
+    c.grow.ensures
+    c.row_of.ensures
+    (ap (λ (k : ℕ). take k (drop a.p.from a.fields.now)) n)
+    c.put_row.ensures c.put_words.ensures

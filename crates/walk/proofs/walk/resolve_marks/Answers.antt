@@ -1,32 +1,20 @@
 -- `walk::walk::resolve_marks` meets its contract: the ranks, the ring as it was written, or zeros.
 -- Assumes nothing.
-use lib.ListN.{length}
-use Rattle.walk.proofs.Laws.Witness.{resolves-accepted, resolves-cycle, resolves-refused}
-use Rattle.walk.proofs.Laws.Answers.{is-ranked}
+use Rattle.std.proofs.Common.{length}
+use Rattle.walk.proofs.Laws.Witness.{resolves-accepted, resolves-refused}
 use Rattle.walk.proofs.walk.resolve_marks.Goals as goal
 
-pub returns-in-Ranked : goal.returns-in-Ranked
-returns-in-Ranked c =
+pub returns-in-Ok : goal.returns-in-Ok
+returns-in-Ok c =
     let s = c.args in
     let call = c.resolve_upward in
-    resolves-accepted s.rows.now s.refs.now (length s.marks.now) call.new.marks call.result call.auto.marks
-    call.ensures (is-ranked call.result c.in-Ranked.field-0 c.in-Ranked.is)
+    resolves-accepted s.table.now.rows.now s.table.now.refs.now (length s.marks.now) call.new.marks call.auto.marks c.in-Ok.ensures
     c.settle.new.marks c.settle.ensures
 
-pub returns-in-Ring : goal.returns-in-Ring
-returns-in-Ring c =
+pub returns-in-Err-Refused : goal.returns-in-Err-Refused
+returns-in-Err-Refused c =
     let s = c.args in
     let call = c.resolve_upward in
-    let ring = c.in-Ring in
-    resolves-cycle s.rows.now s.refs.now (length s.marks.now) call.new.marks call.result call.auto.marks
-    call.ensures
-    ring.k ring.field-1 ring.len ring.is
-
-pub returns-in-Refused : goal.returns-in-Refused
-returns-in-Refused c =
-    let s = c.args in
-    let call = c.resolve_upward in
-    let why = c.in-Refused in
-    resolves-refused s.rows.now s.refs.now (length s.marks.now) call.new.marks call.result call.auto.marks
-    call.ensures
-    why.e why.fault why.is c.clear_words.new.rest c.clear_words.ensures
+    let why = c.in-Err-Refused in
+    resolves-refused s.table.now.rows.now s.table.now.refs.now (length s.marks.now) call.new.marks call.auto.marks why.entry why.fault
+    (rw why.field-0-is at why.ensures) c.fill.new.self (c.fill.ensures.after (λ y e. e))

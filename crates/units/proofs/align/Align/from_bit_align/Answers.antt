@@ -12,7 +12,7 @@ returns-then-bit_align-eq0 c =
     let bits = c.args.bit_align in
     let whole : bits_in_byte * (bits / bits_in_byte) ≡ bits = omega arith in
     let scaled = alignment-scaled 64 bits_in_byte (bits / bits_in_byte) (omega arith) in
-    c.log2.ensures ∙ sym (rw whole at scaled)
+    c.from_byte_align.ensures ∙ sym (rw whole at scaled)
 
 pub returns-else-bit_align-eq0 : goal.returns-else-bit_align-eq0
 returns-else-bit_align-eq0 c = sym (alignment-none 64 bits_in_byte c.args.bit_align (λ shift lt e. c.if-bit_align-eq0.false (omega arith)))
