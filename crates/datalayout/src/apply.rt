@@ -9,7 +9,7 @@ use layout::record::DataLayout;
 use spec::spec::Spec;
 
 // The layout is as it was where the spec is refused.
-// Kept: what may not change: the definitions (`Passes`, `RefusedAt`) name the layout beside a refusal too.
+// Kept: what may not change: the definition (`refused_by`) has the layout beside a refusal too.
 #[derive(Drop)]
 pub struct Applied {
     pub outcome: Result<(), Fault>,

@@ -20,7 +20,8 @@ const NAMES: usize = 8_192;
 
 const WITNESS: usize = 1_024;
 
-// The line of an answer. Kept: `Display` is no plainer (wire, `ok_line`).
+// Kept: `Display` is no plainer (wire, `ok_line`).
+// The line of an answer.
 pub fn line_of(a: Answer) -> Line
     ensures { result.bytes ≡ line_text a }
 {

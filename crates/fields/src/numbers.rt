@@ -33,7 +33,7 @@ fn read_integer<const MOST: u64>(part: &[u8]) -> Result<u64, Fault>
     decimal::parse::<MOST>(part).ok_or(Fault::BadInt)
 }
 
-// Kept: this question and `read_native` are one call of `read_integer` each, and each bears the limit of its own sentence of 01.
+// Kept: this question and `read_native` are one call of `read_integer` each, and each bears the limit of its own sentence of 01; no plainer as one.
 // "u64 for sizes and alignments".
 pub fn read_size(part: &[u8]) -> Result<u64, Fault>
     ensures { result ≡ size_in part.now }
@@ -41,6 +41,7 @@ pub fn read_size(part: &[u8]) -> Result<u64, Fault>
     read_integer::<U64_MOST>(part)
 }
 
+// Kept: this and `read_type_width` are each one question and one fault of their own sentence; one with both as parameters is no plainer.
 pub fn read_space(part: &[u8]) -> Result<u64, Fault>
     ensures { result ≡ space_in part.now }
 {

@@ -20,6 +20,7 @@ use layout::record::Memory;
 use spec::spec::{Spec, read_spec};
 use table::buffer::put_words;
 
+// Kept: what may not change: "the layout returned with a refusal is the default one", so that it has words beside either answer.
 // The answer, and how many words the layout has.
 #[derive(Drop)]
 pub struct Laid {

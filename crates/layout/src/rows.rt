@@ -17,7 +17,7 @@ fn find<R: Row>(rows: &[R], new: R) -> Option<usize>
     rows.iter().position(|row| new.is_same(*row))
 }
 
-// Kept: each kind of rows has its own struct and a call of this, since a struct over an array of its type parameter is not in the language.
+// Kept: each kind of rows has its own struct and a call of this, as the Rust and the definitions name them; one over both is no plainer.
 // "A new row replaces the one with the same .. in its place, else is appended": how many rows there are then. Where one more does
 // not fit there is none, and the room is as it was.
 pub(crate) fn put<R: Row>(room: &mut [R], count: usize, new: R) -> Option<usize>

@@ -7,6 +7,7 @@ use crate::{Error, Fault};
 use rules::Place;
 use units::refusal::Refusal;
 
+// Kept: these are the numbers that C is told, and 15 and 16 stand against the order of `Place`, so that no cast gives them.
 fn number_of(place: Place) -> u64
     ensures { result ≡ number_of place }
 {

@@ -21,7 +21,8 @@ fn push_number(line: &mut Line, n: u64, behind: &str)
     line.push_str(behind);
 }
 
-// Kept: `Display` is no plainer, since no clause says what a formatter is told, and `itoa` and the string's own methods have such clauses.
+// Kept: this and `refused_line` are two texts of the format over one `push_number`; `Display` is no plainer, since no clause says what
+// a formatter is told, and `itoa` and the string's own methods have such clauses.
 // `table ok N`
 pub fn ok_line(entries: u64) -> Line
     ensures { result.bytes ≡ ok_text entries }

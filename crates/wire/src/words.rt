@@ -18,8 +18,8 @@ pub fn is_stream(bytes: usize) -> bool
 pub fn put_stream(words: &mut [u64], bytes: &[u8])
     ensures { words.new ≡ over (words_in bytes.now) words.old }
 {
-    // Kept: a store at the index, since of a `zip` over `iter_mut` only the length is known after, and the loop's goal stays open.
     let (chunks, _) = bytes.as_chunks::<WORD_BYTES>();
+    // Kept: a store at the index, since of a `zip` over `iter_mut` only the length is known after, and the goal `returns` stays open.
     for (i, chunk) in chunks.iter().enumerate() {
         if i == words.len() {
             break;
