@@ -2,6 +2,7 @@
 
     dumped(path)     a list of modules, out of what llvm-bcanalyzer prints (the variable BCANALYZER names another one)
     scanned(path)    the same list, out of the bits of the file itself, as LLVM's "Bitcode File Format" describes them
+    numbers(file)    the code or kind numbers of crates/kinds/src (tools/llvm-codes holds them against LLVM's headers)
 
 A module is a pair: the records of its type block, each a code and its fields, and its layout string as bytes (empty where it has none).
 tools/bc-stream writes what the first one says; tools/real-tables holds both against each other.
@@ -30,9 +31,17 @@ def fields_in(text):
     return [int(n) for n in re.findall(r"op\d+=(\d+)", text)]
 
 
+def numbers(file):
+    """The numbers that a `try_from` of crates/kinds/src tells apart, by the names of their cases in capitals."""
+    with open(os.path.join(ROOT, "crates/kinds/src", file)) as f:
+        arms = re.findall(r"(\d+) => Ok\((?:\w+::Plain\()?\w+::(\w+)\)", f.read())
+    if not arms:
+        raise ValueError(f"crates/kinds/src/{file}: no `NUMBER => Ok(CASE)`")
+    return {name.upper(): int(number) for number, name in arms}
+
+
 def dumped(path):
-    with open(os.path.join(ROOT, "crates/kinds/src/code.rt")) as f:
-        codes = {n.replace("_", ""): int(v) for n, v in re.findall(r"pub const (\w+): u64 = (\d+);", f.read())}
+    codes = numbers("code.rt")
     analyzer = os.environ.get("BCANALYZER", "llvm-bcanalyzer")
     dump = subprocess.run([analyzer, "-dump", path], capture_output=True, check=True).stdout.decode("latin-1")
     modules, in_types = [], False

@@ -1,14 +1,14 @@
 // "It says yes exactly if .." (01, "Resolution").
-ghost use Rattle.std.specs.Prelude.{◌≡◌, length, get_or};
-ghost use Rattle.table.specs.Rows.{row_at};
+ghost use Rattle.std.specs.Prelude.{◌≡◌, length, get_or, take, drop};
+ghost use Rattle.table.specs.Rows.{place_of, row_at};
 ghost use Rattle.formed.specs.Form.{placed};
 ghost use Rattle.checker.specs.Checked.{refers, every_from, lawful, entry_ok, rows_from, checked};
 
 use crate::form::is_formed;
 use kinds::kind::TypeId;
 use rules::{MAX_ENTRIES, counts, may_stand, place_of};
-use table::row::{entry_room, row_at};
-use table::{Rank, TypeRef, row};
+use table::row::{Row, entry_room, row_at};
+use table::{Rank, TypeRef};
 use units::limits::is_integer_width;
 
 // A table of so many entries as it is lent, with the ranks that it claims.
@@ -21,11 +21,22 @@ struct Table<'a> {
     count: usize,
 }
 
+// Kept: `table::row::place_of` answers the same, but the first pass places its stretches by it. The checker trusts nobody, so that a slip
+// there is not its own: it shares the leaves alone.
+fn place_of_stretch(count: u64, fill: u64) -> u64
+    ensures { result ≡ place_of count fill }
+{
+    match count {
+        0 => 0,
+        _ => fill,
+    }
+}
+
 // "consecutive from 0 without gaps", where so much of the room is filled.
 fn is_placed(place: u64, count: u64, fill: u64, room: u64) -> bool
     ensures { result ≡ placed place count fill room }
 {
-    place == row::place_of(count, fill) && count <= room.saturating_sub(fill)
+    place == place_of_stretch(count, fill) && count <= room.saturating_sub(fill)
 }
 
 impl Table<'_> {
@@ -40,10 +51,12 @@ impl Table<'_> {
     fn is_reference(&self, e: TypeRef, i: usize, to: TypeRef) -> bool
         ensures { let t = self.now in result ≡ refers t.rows.now t.ranks.now t.count e.0 i to.0 }
     {
+        if self.count <= to.0 as usize {
+            return false;
+        }
         let from = row_at(self.rows, e.0 as usize);
         let other = row_at(self.rows, to.0 as usize);
-        (to.0 as usize) < self.count
-            && place_of(from.kind, i).is_none_or(|place| may_stand(place, other.kind))
+        may_stand(place_of(from.kind, i), other.kind)
             && (!counts(from, other) || self.rank_at(to) < self.rank_at(e))
     }
 
@@ -56,13 +69,23 @@ impl Table<'_> {
             .all(|(i, &to)| self.is_reference(e, i, TypeRef(to)))
     }
 
+    // The references that the row says, as far as they lie in the buffer.
+    // Kept: `table::row::Row::references` cuts the same stretch, but for the walk, of which the checker takes nothing.
+    fn references(&self, row: Row) -> &[u64]
+        ensures { result.now ≡ take row.count (drop row.first self.now.refs.now) }
+    {
+        let first = self.refs.len().min(row.first as usize);
+        let rest = &self.refs[first..];
+        &rest[..rest.len().min(row.count as usize)]
+    }
+
     // The width and the references of entry e.
     fn is_lawful(&self, e: usize) -> bool
         ensures { let t = self.now in result ≡ lawful t.rows.now t.refs.now t.ranks.now t.count e }
     {
         let row = row_at(self.rows, e);
-        (TypeId::try_from(row.kind) != Ok(TypeId::Integer) || is_integer_width(row.number))
-            && self.are_references(TypeRef(e as u64), row.references(self.refs))
+        (row.kind != u64::from(TypeId::Integer) || is_integer_width(row.number))
+            && self.are_references(TypeRef(e as u64), self.references(row))
     }
 
     // Entry e, behind so many references and name bytes.

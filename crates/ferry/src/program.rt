@@ -1,5 +1,6 @@
 // "Program" (01): the bytes of standard input to the line of the answer.
-ghost use Rattle.std.specs.Prelude.{◌≡◌, true, length};
+ghost use Rattle.std.specs.Prelude.{◌≡◌, true, length, take};
+ghost use Rattle.wire.specs.Lines.{line_of};
 ghost use Rattle.ferry.specs.Program.{text_of, line_text, answer_to};
 ghost use Rattle.wire.specs.Words.{is_stream};
 
@@ -23,7 +24,8 @@ const WITNESS: usize = 1_024;
 // Kept: `Display` is no plainer (wire, `ok_line`).
 // The line of an answer.
 pub fn line_of(a: Answer) -> Line
-    ensures { result.bytes ≡ line_text a }
+    ensures line { result ≡ line_of (line_text a) }
+    ensures text { take result.len result.bytes ≡ line_text a }
 {
     match a {
         Ok(entries) => ok_line(entries),
@@ -47,7 +49,8 @@ fn answer_to(input: &[u8]) -> Answer
 
 // "over 65,536 bytes or not a multiple of 8 counts as 1, 0, 0"
 pub fn run(input: &[u8]) -> Line
-    ensures { result.bytes ≡ text_of input.now }
+    ensures line { result ≡ line_of (text_of input.now) }
+    ensures text { take result.len result.bytes ≡ text_of input.now }
 {
     if is_stream(input.len()) {
         line_of(answer_to(input))

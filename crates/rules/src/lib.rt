@@ -43,16 +43,17 @@ pub fn place_of(kind: u64, i: usize) -> Option<Place>
 }
 
 // Kept: a table of functions, `[place::is_pointee, ..][place as usize](kind)`, is no plainer, and may lack a place.
-pub fn may_stand(place: Place, kind: u64) -> bool
+pub fn may_stand(place: Option<Place>, kind: u64) -> bool
     ensures { result ≡ allowed (not_allowed place) kind }
 {
     match place {
-        Place::Pointee => place::is_pointee(kind),
-        Place::ArrayElement => place::is_array_element(kind),
-        Place::StructElement => place::is_struct_element(kind),
-        Place::VectorElement => place::is_vector_element(kind),
-        Place::Return => place::is_return(kind),
-        Place::Argument => place::is_argument(kind),
+        Some(Place::Pointee) => place::is_pointee(kind),
+        Some(Place::ArrayElement) => place::is_array_element(kind),
+        Some(Place::StructElement) => place::is_struct_element(kind),
+        Some(Place::VectorElement) => place::is_vector_element(kind),
+        Some(Place::Return) => place::is_return(kind),
+        Some(Place::Argument) => place::is_argument(kind),
+        None => true,
     }
 }
 

@@ -1,7 +1,8 @@
 -- Document 01, "Type stream and table": what a record says, from its code, what is seen of its fields, and whether a name is pending.
 --     needed c                  how many fields a record of the code c needs
 --     adds k n f from count     an entry: kind, number, flag; its references are count fields from the field `from` on
---     shape_of c s p            what a record with the code says of which s was seen
+--     known_shape c s p         what a record says that has that code and of which s was seen
+--     shape_of c s p            the same, of what its number says as a code, which is refused if it says none
 --     shape_in code fs p         what a record with the code and the fields fs says
 -- Assumes nothing.
 use Rattle.std.specs.Prelude.{Bool, true, false, cond, ◌&&◌, List, ℕ, ◌-◌, ◌%◌, ltb, length, get_or, Result, Ok, Err}
@@ -84,13 +85,13 @@ whole_shape Function s p = Ok (adds kind.Function 0 (flag_of s.first) 1 (s.count
 whole_shape OpaquePointer s p = spaced kind.OpaquePointer s.first 0
 
 -- "within one: missing field, then its other faults by number"
-abbrev pub shape_of : TypeCode → Seen → Bool → Result Shape Fault
-shape_of c s p = cond (ltb s.count (needed c)) (Err LacksField) (whole_shape c s p)
+abbrev pub known_shape : TypeCode → Seen → Bool → Result Shape Fault
+known_shape c s p = cond (ltb s.count (needed c)) (Err LacksField) (whole_shape c s p)
 
 -- "3 | unknown code | record, code"
-abbrev pub shape_from : Result TypeCode unknown.UnknownCode → Seen → Bool → Result Shape Fault
-shape_from (Ok c) s p = shape_of c s p
-shape_from (Err e) s p = Err (UnknownCode e.0)
+abbrev pub shape_of : Result TypeCode unknown.UnknownCode → Seen → Bool → Result Shape Fault
+shape_of (Ok c) s p = known_shape c s p
+shape_of (Err e) s p = Err (UnknownCode e.0)
 
 abbrev pub seen_in : List ℕ → Seen
 seen_in fs = record { count = length fs; first = get_or fs 0 0; second = get_or fs 1 0; third = get_or fs 2 0 }
@@ -108,4 +109,4 @@ spelled_if fs (Ok shape) = spelled fs shape
 spelled_if fs (Err fault) = Err fault
 
 abbrev pub shape_in : ℕ → List ℕ → Bool → Result Shape Fault
-shape_in code fs p = spelled_if fs (shape_from (type_code code) (seen_in fs) p)
+shape_in code fs p = spelled_if fs (shape_of (type_code code) (seen_in fs) p)

@@ -4,7 +4,7 @@ ghost use Rattle.shapes.specs.Shapes.{needed, flag_of, adds, spaced, vector_kind
 ghost use Rattle.shapes.specs.Shapes.{whole_shape, shape_of, seen_in, spelled, shape_in};
 
 use crate::{Fault, Head, Seen, Shape};
-use kinds::code::TypeCode;
+use kinds::code::{TypeCode, UnknownCode};
 use kinds::kind::TypeId;
 use units::limits::is_address_space;
 
@@ -116,10 +116,11 @@ fn whole_shape(c: TypeCode, s: Seen, pending: bool) -> Result<Shape, Fault>
     }
 }
 
-// "within one: missing field, then its other faults by number"
-pub fn shape_of(c: TypeCode, s: Seen, pending: bool) -> Result<Shape, Fault>
+// "within one: missing field, then its other faults by number"; an unknown code needs no field
+pub fn shape_of(c: Result<TypeCode, UnknownCode>, s: Seen, pending: bool) -> Result<Shape, Fault>
     ensures { result ≡ shape_of c s pending }
 {
+    let c = c?;
     if s.count < needed(c) {
         return Err(Fault::LacksField);
     }
@@ -150,7 +151,6 @@ fn spelled(fields: &[u64], shape: Shape) -> Result<Shape, Fault>
 pub fn shape_in(code: u64, fields: &[u64], pending: bool) -> Result<Shape, Fault>
     ensures { result ≡ shape_in code fields.now pending }
 {
-    let code = TypeCode::try_from(code)?;
-    let shape = shape_of(code, seen_in(fields), pending)?;
+    let shape = shape_of(TypeCode::try_from(code), seen_in(fields), pending)?;
     spelled(fields, shape)
 }

@@ -2,10 +2,11 @@
 --     Stream             records, to the end of the words or to where they end inside a record
 --     stream ws          the words ws as records
 --     record_at ws at     what stands at the place at: nothing, a record, or one that is cut
+--     Finds ws place at found     what is found at the place at is that, its fields a part of the words ws, which stand at `place`
 --     records_of ws      the records of the words ws in order, and behind them one that is cut, if they end inside it
 --     framed at s        whether s, whose first word is the word at, is whole, else the head of the record that is cut
 -- Assumes nothing.
-use Rattle.std.specs.Prelude.{cond, List, [], ◌∷◌, ℕ, zero, suc, ◌+◌, leb, length, take, drop, Option, Some, None, Result, Ok, Err}
+use Rattle.std.specs.Prelude.{◌≡◌, cond, List, [], ◌∷◌, ℕ, zero, suc, ◌+◌, ◌*◌, leb, length, take, drop, Option, Some, None, Result, Ok, Err, option_map}
 use Rattle.stream.specs.declared.Record.{Record}
 use Rattle.stream.specs.declared.Records.{Records}
 use Rattle.stream.specs.declared.Cut.{Cut}
@@ -62,6 +63,17 @@ records_of ws = records_in 0 (stream ws)
 abbrev pub read_of : Result Record Cut → Result Read Cut
 read_of (Ok r) = whole r.code r.fields.now
 read_of (Err ends) = Err ends
+
+-- where the fields lie that are handed out: in the words, which stand at `place`, behind the code and the count of their record, of 8
+-- bytes each; those of an empty record too, so that the words and the place leave one answer
+abbrev pub LiesAt : ℕ × ℕ → ℕ → Option (Result Record Cut) → Type 0
+LiesAt place at None = Unit {0}
+LiesAt place at (Some (Err ends)) = Unit {0}
+LiesAt place at (Some (Ok r)) = r.fields.ref_ptr ≡ (place.0, (at + 2) * 8 + place.1)
+
+pub record Finds (words : List ℕ) (place : ℕ × ℕ) (at : ℕ) (found : Option (Result Record Cut)) : Type 0 where
+  pub says : option_map read_of found ≡ record_at words at
+  pub lies : LiesAt place at found
 
 abbrev pub left : Records → List (Result Read Cut)
 left r = records_in r.at (stream (drop r.at r.words.now))

@@ -1,9 +1,9 @@
 // A type stream as records: what stands at a place; whether every record is whole, and what the NumEntry records state.
 #![tactic(auto)]
 
-ghost use Rattle.std.specs.Prelude.{◌≡◌, List, ◌++◌, ◌-◌, ℕ, length, option_map};
+ghost use Rattle.std.specs.Prelude.{◌≡◌, List, ◌++◌, ◌-◌, ℕ, length};
 ghost use Rattle.std.specs.Iterator.{YieldsFirstBy, at_most};
-ghost use Rattle.stream.specs.Stream.{record_at, records_of, read_of, left};
+ghost use Rattle.stream.specs.Stream.{Finds, records_of, read_of, left};
 ghost use Rattle.stream.specs.Count.{num_entry_in, stated_by, survey_of};
 
 use kinds::code::TypeCode;
@@ -33,21 +33,25 @@ pub struct Survey {
 }
 
 // The field count is compared with the words that are left, so that a huge one does not wrap.
+// Kept: parts of `words` itself in place of `get`, of whose answer only the contents are known, and not where it lies.
 pub fn record_at(words: &[u64], at: usize) -> Option<Result<Record<'_>, Cut>>
-    ensures { option_map read_of result ≡ record_at words.now at }
+    ensures { Finds words.now words.entry.ref_ptr at result }
 {
-    let left = words.get(at..)?;
-    match left {
-        [] => None,
-        [_] => Some(Err(Cut { head: at })),
-        [code, count, rest @ ..] => match rest.get(..*count as usize) {
-            Some(fields) => Some(Ok(Record {
-                code: *code,
-                fields,
-            })),
-            None => Some(Err(Cut { head: at })),
-        },
+    if words.len() <= at {
+        return None;
     }
+    let [code, count, rest @ ..] = &words[at..] else {
+        return Some(Err(Cut { head: at }));
+    };
+    let count = *count as usize;
+    if rest.len() < count {
+        return Some(Err(Cut { head: at }));
+    }
+    let start = at + 2;
+    Some(Ok(Record {
+        code: *code,
+        fields: &words[start..start + count],
+    }))
 }
 
 // The records of a stream in order; the last may be one that is cut.

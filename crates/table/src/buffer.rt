@@ -7,7 +7,10 @@ pub fn put_words(rest: &mut [u64], src: &[u64])
     ensures { rest.new ≡ over src.now rest.old }
 {
     let count = src.len().min(rest.len());
-    rest[..count].copy_from_slice(&src[..count]);
+    // Kept: a store at the index, since a copy of a length found at run time asks the linker of the library for memmove.
+    for (i, word) in src[..count].iter().enumerate() {
+        rest[i] = *word;
+    }
 }
 
 // The low byte of each word.

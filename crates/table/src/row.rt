@@ -55,11 +55,25 @@ fn word(rows: &[u64], i: usize) -> u64
     rows.get(i).copied().unwrap_or(0)
 }
 
-// The row of entry e; words that are not there read as 0.
+// The row of entry e; words that are not there read as 0. One test serves all the words of a row that lies whole in the buffer.
 pub fn row_at(rows: &[u64], e: usize) -> Row
     ensures { result ≡ row_at rows.now e }
 {
-    if entry_room(rows.len()) < e {
+    let room = entry_room(rows.len());
+    if e < room {
+        let at = e * ROW_WORDS;
+        return Row {
+            kind: rows[at],
+            number: rows[at + 1],
+            flag: rows[at + 2],
+            first: rows[at + 3],
+            count: rows[at + 4],
+            start: rows[at + 5],
+            len: rows[at + 6],
+            named: rows[at + 7],
+        };
+    }
+    if room < e {
         return Row::default();
     }
     let at = e * ROW_WORDS;
@@ -75,12 +89,15 @@ pub fn row_at(rows: &[u64], e: usize) -> Row
     }
 }
 
-// The row over the front of the unused rest.
+// The row over the front of the unused rest. A whole row is stored at once, which costs less than a run of any length.
 pub fn put_row(rest: &mut [u64], row: Row)
     ensures { rest.new ≡ over (words_of row) rest.old }
 {
     let words = [
         row.kind, row.number, row.flag, row.first, row.count, row.start, row.len, row.named,
     ];
-    put_words(rest, &words);
+    match rest.first_chunk_mut() {
+        Some(whole) => *whole = words,
+        None => put_words(rest, &words),
+    }
 }

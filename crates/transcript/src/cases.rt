@@ -5,7 +5,6 @@ use crate::layout_op::layout_case;
 use crate::name_op::name_case;
 use crate::out::Answer;
 use crate::table_op::{Lent, table_case};
-use arrayvec::ArrayVec;
 
 // "lent buffers of 36,864 words for rows .., 16,384 for references, 16,384 name bytes, 4,096 witness or rank words; layout strings of
 // 4,096 bytes".
@@ -52,11 +51,12 @@ pub(crate) fn part<'a>(rest: &mut &'a [u64], count: u64, limit: usize) -> Option
     rest.split_off(..count as usize)
 }
 
-// The bytes that the words are, up to N.
-pub(crate) fn bytes_of<const N: usize>(words: &[u64]) -> Option<ArrayVec<u8, N>> {
-    let mut bytes = ArrayVec::new();
-    for word in words {
-        bytes.try_push(u8::try_from(*word).ok()?).ok()?;
+// The bytes that the words are, in a lent room.
+// Kept: a string in place of so many bytes would be cleared and copied for each case, however short what it holds.
+pub(crate) fn bytes_of<'a>(words: &[u64], room: &'a mut [u8]) -> Option<&'a [u8]> {
+    let bytes = room.get_mut(..words.len())?;
+    for (byte, word) in bytes.iter_mut().zip(words) {
+        *byte = u8::try_from(*word).ok()?;
     }
     Some(bytes)
 }
@@ -70,8 +70,8 @@ pub(crate) fn answer_to(
 ) -> Option<()> {
     match Op::try_from(op).ok()? {
         Op::Table => table_case(payload, lent, answer),
-        Op::Checker => checker_case(payload, answer),
-        Op::Name => name_case(payload, answer),
-        Op::Layout => layout_case(payload, answer),
+        Op::Checker => checker_case(payload, lent, answer),
+        Op::Name => name_case(payload, lent, answer),
+        Op::Layout => layout_case(payload, lent, answer),
     }
 }

@@ -12,7 +12,7 @@ mod table_op;
 
 use cases::{NAMES, REFERENCES, ROWS, WITNESS, answer_to};
 use out::{Answer, WORD_BYTES};
-use payload::{PAYLOAD_BYTES, PAYLOAD_WORDS, Payload};
+use payload::{PAYLOAD_BYTES, PAYLOAD_WORDS, Payload, fill};
 use std::io::{self, ErrorKind, Input, Read, Write};
 use table_op::Lent;
 use wire::words::put_stream;
@@ -29,7 +29,7 @@ impl Case {
     // A payload above the limit is passed over, and its answer has no body.
     fn take<R: Read, W: Write>(&mut self, reader: &mut R, writer: &mut W) -> io::Result<()> {
         let mut head_bytes = [0u8; 2 * WORD_BYTES];
-        reader.read_exact(&mut head_bytes)?;
+        fill(reader, &mut head_bytes)?;
         let mut head = [0u64; 2];
         put_stream(&mut head, &head_bytes);
         let [op, length] = head;

@@ -1,12 +1,21 @@
 // The payload of a case, read from standard input.
 use crate::out::WORD_BYTES;
-use std::io::{self, Read};
+use inout::read_full;
+use std::io::{self, ErrorKind, Read};
 use wire::words::put_stream;
 
 // "Limits: a payload of 65,536 words".
 pub(crate) const PAYLOAD_WORDS: usize = 65_536;
 
 pub(crate) const PAYLOAD_BYTES: usize = 524_288;
+
+// Fills the buffer with the next bytes of the input; an input that ends before it is full is an error of its own kind.
+pub(crate) fn fill<R: Read>(reader: &mut R, buf: &mut [u8]) -> io::Result<()> {
+    if read_full(reader, buf)? < buf.len() {
+        return Err(ErrorKind::UnexpectedEof.into());
+    }
+    Ok(())
+}
 
 // As bytes and as words.
 #[derive(Drop)]
@@ -29,16 +38,16 @@ impl Payload {
         let count = count as usize;
         let Payload { bytes, words } = self;
         let bytes = &mut bytes[..count * WORD_BYTES];
-        reader.read_exact(bytes)?;
+        fill(reader, bytes)?;
         put_stream(words, bytes);
         Ok(Some(&words[..count]))
     }
 
     fn pass_over<R: Read>(&mut self, reader: &mut R, count: u64) -> io::Result<()> {
         for _ in 0..count / PAYLOAD_WORDS as u64 {
-            reader.read_exact(&mut self.bytes)?;
+            fill(reader, &mut self.bytes)?;
         }
         let left = (count % PAYLOAD_WORDS as u64) as usize;
-        reader.read_exact(&mut self.bytes[..left * WORD_BYTES])
+        fill(reader, &mut self.bytes[..left * WORD_BYTES])
     }
 }

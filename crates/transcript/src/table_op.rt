@@ -8,7 +8,7 @@ const FILL_WORD: u64 = 0xA5A5_A5A5_A5A5_A5A5;
 
 const FILL_BYTE: u8 = 0xA5;
 
-// The outputs that the reader is lent.
+// The outputs that the reader is lent; in the room of the names the other ops have their bytes.
 #[derive(Drop)]
 pub(crate) struct Lent {
     pub(crate) rows: [u64; ROWS],

@@ -29,9 +29,10 @@ impl Table<'_> {
         ensures { verdict_of result ≡ first_bad self.now.rows.now kind 0 stretch.now }
     {
         for (i, &to) in stretch.iter().enumerate() {
+            let place = place_of(kind, i);
             let row = self.row(to as usize);
-            if let Some(place) = place_of(kind, i)
-                && !may_stand(place, row.kind)
+            if !may_stand(place, row.kind)
+                && let Some(place) = place
             {
                 return Err(Fault::Referent(place, to));
             }

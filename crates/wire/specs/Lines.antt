@@ -1,8 +1,11 @@
 -- Document 01, "Program": "It writes one line: `table ok N` or `table refused R P D`, decimal, newline after."
 --     decimal_text n          the decimal digits of n;  text_in f n  the same, at most f digits: f only makes it end
 --     ok_text, refused_text    the two lines
+--     line_of text            a line that holds the text, as far as there is room, and zeros behind it
 -- Assumes nothing.
-use Rattle.std.specs.Prelude.{cond, List, [], ◌∷◌, ◌++◌, ℕ, zero, suc, ◌+◌, ◌/◌, ◌%◌, ltb, codes}
+use Rattle.std.specs.Prelude.{cond, List, [], ◌∷◌, ◌++◌, ℕ, zero, suc, ◌+◌, ◌/◌, ◌%◌, min, ltb, length, take, codes}
+use Rattle.table.specs.Buffers.{padded}
+use Rattle.wire.specs.declared.line.Line.{Line}
 
 -- `0` is 48
 abbrev pub digit : ℕ → ℕ
@@ -33,3 +36,9 @@ ok_text entries = ok_head ++ decimal_text entries ++ newline
 abbrev pub refused_text : ℕ → ℕ → ℕ → List ℕ
 refused_text number place detail =
     refused_head ++ decimal_text number ++ codes " " ++ decimal_text place ++ codes " " ++ decimal_text detail ++ newline
+
+abbrev pub line_bytes : ℕ
+line_bytes = 80
+
+unfoldable pub line_of : List ℕ → Line
+line_of text = record { bytes = padded line_bytes (take line_bytes text); len = min line_bytes (length text) }

@@ -25,7 +25,7 @@ use Rattle.shapes.specs.declared.Fault.{Fault}
 use Rattle.shapes.specs.declared.Fault.TheVariants.{LacksField, SpaceTooLarge}
 use Rattle.shapes.specs.declared.Shape.{Shape}
 use Rattle.shapes.specs.declared.Shape.TheVariants as says
-use Rattle.shapes.specs.Shapes.{needed, whole_shape, shape_of, shape_from, seen_in, spelled_if}
+use Rattle.shapes.specs.Shapes.{needed, whole_shape, known_shape, shape_of, seen_in, spelled_if}
 use Rattle.shapes.specs.Shapes.{adds, spaced, shape_in}
 use Rattle.formed.specs.Form.{formed}
 
@@ -110,20 +110,20 @@ unfolding whole_shape formed
 whole_shape-fair (code.Plain kind) s p len t le = plain-fair (number kind) t len
 whole_shape-fair c s p len t le = grind arith
 
-shape_of-fair : (c : TypeCode) (s : Seen) (p : Bool) (len : ℕ) → T (plain_low c) → FairAt len (shape_of c s p)
-shape_of-fair c s p len t = by (ltb s.count (needed c)) refl
+known_shape-fair : (c : TypeCode) (s : Seen) (p : Bool) (len : ℕ) → T (plain_low c) → FairAt len (known_shape c s p)
+known_shape-fair c s p len t = by (ltb s.count (needed c)) refl
   where
     by : (b : Bool) → ltb s.count (needed c) ≡ b → FairAt len (cond b (Err LacksField) (whole_shape c s p))
     by true e = tt
     by false e = whole_shape-fair c s p len t (ltb-false s.count (needed c) e)
 
-shape_from-fair : (r : Result TypeCode UnknownCode) (s : Seen) (p : Bool) (len : ℕ) → T (known_low r) → FairAt len (shape_from r s p)
-shape_from-fair (Ok c) s p len t = shape_of-fair c s p len t
-shape_from-fair (Err e) s p len t = tt
+shape_of-fair : (r : Result TypeCode UnknownCode) (s : Seen) (p : Bool) (len : ℕ) → T (known_low r) → FairAt len (shape_of r s p)
+shape_of-fair (Ok c) s p len t = known_shape-fair c s p len t
+shape_of-fair (Err e) s p len t = tt
 
 spelled-fair : (fs : List ℕ) (r : Result Shape Fault) (len : ℕ) → FairAt len r → FairAt len (spelled_if fs r)
 spelled-fair fs r len h = grind arith
 
 pub shape_in-fair : (k : ℕ) (fs : List ℕ) (p : Bool) → Fair (shape_in k fs p)
 shape_in-fair k fs p len =
-    spelled-fair fs (shape_from (type_code k) (seen_in fs) p) len (shape_from-fair (type_code k) (seen_in fs) p len (type_code-low k))
+    spelled-fair fs (shape_of (type_code k) (seen_in fs) p) len (shape_of-fair (type_code k) (seen_in fs) p len (type_code-low k))

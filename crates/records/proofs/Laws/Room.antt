@@ -21,7 +21,7 @@ use Rattle.shapes.specs.declared.Fault.{Fault}
 use Rattle.shapes.specs.declared.Fault.TheVariants as fault
 use Rattle.shapes.specs.declared.Seen.{Seen}
 use Rattle.shapes.specs.declared.Shape.{Shape}
-use Rattle.shapes.specs.Shapes.{needed, whole_shape, shape_of, shape_from, seen_in, spelled_if, shape_in}
+use Rattle.shapes.specs.Shapes.{needed, whole_shape, known_shape, shape_of, seen_in, spelled_if, shape_in}
 use Rattle.records.specs.Table.{Table, Room, fits, Deed, passes, pends, puts, refuses}
 use Rattle.records.specs.Records.{deed_if, Outcome, go, stop, after, step_of, bad, onward, run}
 use Rattle.records.specs.Promises.{Larger}
@@ -104,14 +104,14 @@ whole-early : (c : TypeCode) (s : Seen) (p : Bool) → Early (whole_shape c s p)
 unfolding whole_shape
 whole-early c s p = grind arith
 
-shape-early : (c : TypeCode) (s : Seen) (p : Bool) → Early (shape_of c s p)
+shape-early : (c : TypeCode) (s : Seen) (p : Bool) → Early (known_shape c s p)
 shape-early c s p = by (ltb s.count (needed c))
   where
     by : (b : Bool) → Early (cond b (Err fault.LacksField) (whole_shape c s p))
     by true = refl
     by false = whole-early c s p
 
-from-early : (r : Result TypeCode UnknownCode) (s : Seen) (p : Bool) → Early (shape_from r s p)
+from-early : (r : Result TypeCode UnknownCode) (s : Seen) (p : Bool) → Early (shape_of r s p)
 from-early (Ok c) s p = shape-early c s p
 from-early (Err e) s p = refl
 
@@ -119,4 +119,4 @@ spelled-early : (fs : List ℕ) (r : Result Shape Fault) → Early r → Early (
 spelled-early fs r h = grind arith
 
 pub shape_in-early : (k : ℕ) (fs : List ℕ) (p : Bool) → Early (shape_in k fs p)
-shape_in-early k fs p = spelled-early fs (shape_from (type_code k) (seen_in fs) p) (from-early (type_code k) (seen_in fs) p)
+shape_in-early k fs p = spelled-early fs (shape_of (type_code k) (seen_in fs) p) (from-early (type_code k) (seen_in fs) p)

@@ -21,7 +21,7 @@ use Rattle.shapes.specs.declared.Fault.{Fault}
 use Rattle.shapes.specs.declared.Fault.TheVariants.{LacksField}
 use Rattle.shapes.specs.declared.Shape.{Shape}
 use Rattle.shapes.specs.declared.Shape.TheVariants.{Nothing, Name, Adds, Opaque, Named}
-use Rattle.shapes.specs.Shapes.{needed, whole_shape, shape_of, shape_from, seen_in, spelled, spelled_if, shape_in}
+use Rattle.shapes.specs.Shapes.{needed, whole_shape, known_shape, shape_of, seen_in, spelled, spelled_if, shape_in}
 use Rattle.shapes.specs.contracts.Shape.{the_type}
 
 -- Named in docs/PROVING.md: whatever is no name is not spelled.
@@ -53,8 +53,8 @@ whole_shape-inside : (c : TypeCode) (s : Seen) (p : Bool) → needed c ≤ s.cou
 unfolding whole_shape
 whole_shape-inside c s p le = grind arith
 
-shape_of-inside : (c : TypeCode) (s : Seen) (p : Bool) → Inside (shape_of c s p) s.count
-shape_of-inside c s p = by (ltb s.count (needed c)) refl
+known_shape-inside : (c : TypeCode) (s : Seen) (p : Bool) → Inside (known_shape c s p) s.count
+known_shape-inside c s p = by (ltb s.count (needed c)) refl
   where
     by : (b : Bool) → ltb s.count (needed c) ≡ b → Inside (cond b (Err LacksField) (whole_shape c s p)) s.count
     by true e = omega arith
@@ -63,13 +63,13 @@ shape_of-inside c s p = by (ltb s.count (needed c)) refl
 spelled-inside : (fs : List ℕ) (r : Result Shape Fault) (n : ℕ) → Inside r n → Inside (spelled_if fs r) n
 spelled-inside fs r n le = grind arith
 
-shape_from-inside : (r : Result TypeCode UnknownCode) (s : Seen) (p : Bool) → Inside (shape_from r s p) s.count
-shape_from-inside (Ok c) s p = shape_of-inside c s p
-shape_from-inside (Err e) s p = omega arith
+shape_of-inside : (r : Result TypeCode UnknownCode) (s : Seen) (p : Bool) → Inside (shape_of r s p) s.count
+shape_of-inside (Ok c) s p = known_shape-inside c s p
+shape_of-inside (Err e) s p = omega arith
 
 pub shape_in-inside : (k : ℕ) (fs : List ℕ) (p : Bool) → Inside (shape_in k fs p) (length fs)
 shape_in-inside k fs p =
-    spelled-inside fs (shape_from (type_code k) (seen_in fs) p) (length fs) (shape_from-inside (type_code k) (seen_in fs) p)
+    spelled-inside fs (shape_of (type_code k) (seen_in fs) p) (length fs) (shape_of-inside (type_code k) (seen_in fs) p)
 
 -- a name that is taken is well formed
 
@@ -77,4 +77,4 @@ name : (r : Result Shape Fault) (fs : List ℕ) → spelled_if fs r ≡ Ok Name 
 name r fs e = grind arith
 
 pub shape_in-name : (k : ℕ) (fs : List ℕ) (p : Bool) → shape_in k fs p ≡ Ok Name → is_utf8 fs ≡ true
-shape_in-name k fs p e = name (shape_from (type_code k) (seen_in fs) p) fs e
+shape_in-name k fs p e = name (shape_of (type_code k) (seen_in fs) p) fs e

@@ -1,23 +1,23 @@
 -- Laws of specs/Stream.antt: what `record_at` finds at a place is the head of the stream there, so that a loop over the records of
 -- the words goes down the stream.
 -- Assumes nothing.
-use mathlib.Core.Path.{◌≡◌, refl, ap, ◌∙◌}
+use mathlib.Core.Path.{◌≡◌, refl, sym, ap, ◌∙◌}
 use mathlib.Core.Bool.{Bool, true, false, cond}
-use mathlib.Core.List.{List, [], ◌∷◌}
+use mathlib.Core.List.{List, [], ◌∷◌, ◌++◌}
 use Prim.Native.Nat.{ℕ, zero, suc, ◌+◌, ◌-◌, ◌≤◌, ◌<◌}
 use native.Mathlib.Omega.{arith}
 use lib.Dec.{leb}
-use lib.ListN.{length, get_or, take, drop, length-drop, drop_of_length-le}
-use lib.Seq.{drop-drop, length-take-le}
+use lib.ListN.{length, get_or, take, drop, length-append, length-drop, drop_of_length-le}
+use lib.Seq.{drop-drop, length-take-le, take-append_seam, drop-append_seam}
 use borrow.Author.Tests.{le-leb, lt-leb, leb-true}
-use Rattle.std.proofs.Common.{Option, Some, None, Result, Ok, Err}
+use Rattle.std.proofs.Common.{Option, Some, None, Result, Ok, Err, option_map}
 use Rattle.std.specs.List.{slice_range}
 use Rattle.laws.proofs.Rests.{rest_part}
 use Rattle.stream.specs.declared.Cut.{Cut}
 use Rattle.stream.specs.declared.Record.{Record}
 use Rattle.stream.specs.declared.Records.{Records}
 use Rattle.stream.specs.Stream.{Stream, cut, rec, first, stream_in, stream, Read, whole, cut_at, found_in, record_at, records_in}
-use Rattle.stream.specs.Stream.{records_of, read_of, left, framed}
+use Rattle.stream.specs.Stream.{records_of, read_of, LiesAt, Finds, left, framed}
 
 -- more turns than words change nothing
 
@@ -38,11 +38,17 @@ unfolding stream stream_in
 stream-first ws =
     first-same (stream_in (length ws)) stream ws (λ v lt. stream_in-same (length ws) (suc (length v)) v lt (omega arith))
 
+-- a whole record in front of whatever follows: what a reader of portions stands on (2026-04)
+pub stream-record : (c n : ℕ) (fs vs : List ℕ) → length fs ≡ n → stream (c ∷ n ∷ (fs ++ vs)) ≡ rec c fs (stream vs)
+stream-record c n fs vs e =
+    stream-first (c ∷ n ∷ (fs ++ vs))
+    ∙ rw (le-leb n (length (fs ++ vs)) (simp length-append (omega arith)), ← e, take-append_seam, drop-append_seam)
+
 -- what stands at a place, by the words that are left there
 module _ (ws : List ℕ) (at : ℕ) where
-  pub record_at-past : length ws < at → record_at ws at ≡ None
+  pub record_at-past : length ws ≤ at → record_at ws at ≡ None
   unfolding record_at
-  record_at-past past = rw (drop_of_length-le ws {i = at} (omega arith))
+  record_at-past past = rw (drop_of_length-le ws {i = at} past)
 
   module _ (vs : List ℕ) (is : vs ≡ slice_range ws at (length ws)) where
     found : record_at ws at ≡ found_in at vs
@@ -85,8 +91,34 @@ module _ (ws : List ℕ) (at : ℕ) where
         let all = e ∙ ap (λ (n : ℕ). take n behind) from in
         more h ∙ rw (le-leb (get_or vs 1 0) (length behind) le, all)
 
+    pub fields-behind : (n : ℕ) → take (at + 2 + n - (at + 2)) (drop (at + 2) ws) ≡ slice_range behind 0 n
+    fields-behind n =
+        let count : at + 2 + n - (at + 2) ≡ n = omega arith in
+        let from : n - 0 ≡ n = omega arith in
+        rw (count, from, rest_part vs 2, is, rest_part ws at, drop-drop 2 at ws)
+
     pub record_at-cut : 2 ≤ length vs → length behind < get_or vs 1 0 → record_at ws at ≡ Some (cut_at at)
     record_at-cut h lt = more h ∙ rw (lt-leb (get_or vs 1 0) (length behind) lt)
+
+-- the words and their place leave one answer, of an empty record too
+pub Finds-one : (ws : List ℕ) (place : ℕ × ℕ) (at : ℕ) (x y : Option (Result Record Cut)) → Finds ws place at x → Finds ws place at y → x ≡ y
+Finds-one ws place at x y f g = by x y (f.says ∙ sym g.says) f.lies g.lies
+  where
+    by : (x y : Option (Result Record Cut)) → option_map read_of x ≡ option_map read_of y → LiesAt place at x → LiesAt place at y → x ≡ y
+    by None None e l m = refl
+    by None (Some (Ok r)) e l m = absurd cc
+    by None (Some (Err c)) e l m = absurd cc
+    by (Some (Ok r)) None e l m = absurd cc
+    by (Some (Err c)) None e l m = absurd cc
+    by (Some (Ok r)) (Some (Err c)) e l m = absurd cc
+    by (Some (Err c)) (Some (Ok r)) e l m = absurd cc
+    by (Some (Err c)) (Some (Err d)) e l m = cc
+    by (Some (Ok r)) (Some (Ok s)) e l m =
+        let same : ◌≡◌ {A = Read} (record { code = r.code; fields = r.fields.now }) (record { code = s.code; fields = s.fields.now }) = cc in
+        let code : r.code ≡ s.code = ap (λ (x : Read). x.code) same in
+        let now : r.fields.now ≡ s.fields.now = ap (λ (x : Read). x.fields) same in
+        let at_one : r.fields.ref_ptr ≡ s.fields.ref_ptr = l ∙ sym m in
+        ap Some (ap Ok (rw (code, now, at_one)))
 
 -- what is found at a place, and what is left there
 module _ (ws : List ℕ) (at : ℕ) where
@@ -212,6 +244,9 @@ module _ (ws : List ℕ) (at c : ℕ) (fs : List ℕ) where
 
     pub is-record : stream (drop at ws) ≡ rec c fs (stream (drop (at + 2 + length fs) ws))
     is-record = stream-first (drop at ws) ∙ headed.0
+
+    pub lies : (fs ≡ take (length fs) (drop (at + 2) ws)) × (at + 2 + length fs ≤ length ws)
+    lies = let found : record_at ws at ≡ Some (whole c fs) = sym is ∙ q in let l = record_at-leads ws at in (headed.1, (rw found at l).1)
 
     pub framed-next : framed at (stream (drop at ws)) ≡ framed (at + 2 + length fs) (stream (drop (at + 2 + length fs) ws))
     unfolding framed

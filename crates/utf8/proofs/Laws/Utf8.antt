@@ -56,7 +56,7 @@ rest_of-past (s ∷ rows) m b t lt =
     let le : s.lead.last ≤ m = leb-true s.lead.last m (T_true _ h.0) in
     rw (within-above s.lead.first s.lead.last b (omega arith)) (rest_of-past rows m b h.1 lt)
 
-rest_of-high : (b : ℕ) → 244 < b → nowhere ∷ [] ≡ rest_of sequences b
+pub rest_of-high : (b : ℕ) → 244 < b → nowhere ∷ [] ≡ rest_of sequences b
 rest_of-high b lt = sym (rest_of-past sequences 244 b tt lt)
 
 -- the turn of the loop
@@ -153,7 +153,7 @@ bytes-of-pays (r ∷ rs) (b ∷ s) small t (suc k) =
     bytes-of-pays rs s (T_and (leb r.last 255) (byte_ranges rs) small).1 (T_and (in_range r b) (pays rs s) t).1 k
 
 -- an ASCII byte owes nothing
-pays-ascii : (b : ℕ) (s : List ℕ) → b < 128 → pays [] (b ∷ s) ≡ pays [] s
+pub pays-ascii : (b : ℕ) (s : List ℕ) → b < 128 → pays [] (b ∷ s) ≡ pays [] s
 unfolding pays
 pays-ascii b s low = rw (pays, rest_of, within-inside 0 127 b (omega arith) (omega arith))
 

@@ -21,7 +21,7 @@ use Rattle.rules.specs.Lawful.{refs_at, bad_width, number_of, first_bad, rule_at
 
 module _ (rows : List ℕ) (kind i : ℕ) (l : List ℕ) where
   pub first_bad-here : i < length l → {place : Place} {row : Row} → Some place ≡ place_at kind i → row ≡ row_at rows (get_or l i 0)
-      → allowed (not_allowed place) row.kind ≡ false → broken (number_of place) (get_or l i 0) ≡ first_bad rows kind i (drop i l)
+      → allowed (not_allowed (Some place)) row.kind ≡ false → broken (number_of place) (get_or l i 0) ≡ first_bad rows kind i (drop i l)
   unfolding first_bad
   first_bad-here lt is is_row h =
       let kind_of = ap (λ (x : Row). x.kind) is_row in
