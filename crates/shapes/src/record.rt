@@ -151,6 +151,8 @@ fn spelled(fields: &[u64], shape: Shape) -> Result<Shape, Fault>
 pub fn shape_in(code: u64, fields: &[u64], pending: bool) -> Result<Shape, Fault>
     ensures { result ≡ shape_in code fields.now pending }
 {
-    let shape = shape_of(TypeCode::try_from(code), seen_in(fields), pending)?;
+    // Kept: the code is judged here, since to hand the whole result on to `shape_of` costs each record a second jump.
+    let code = TypeCode::try_from(code)?;
+    let shape = shape_of(Ok(code), seen_in(fields), pending)?;
     spelled(fields, shape)
 }

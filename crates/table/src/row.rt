@@ -89,15 +89,22 @@ pub fn row_at(rows: &[u64], e: usize) -> Row
     }
 }
 
+// The words of a row, in their order.
+fn words_of(row: Row) -> [u64; 8]
+    ensures { result ≡ words_of row }
+{
+    [
+        row.kind, row.number, row.flag, row.first, row.count, row.start, row.len, row.named,
+    ]
+}
+
 // The row over the front of the unused rest. A whole row is stored at once, which costs less than a run of any length.
+// Kept: each arm makes the words; made before the match, they lie on the stack for the row that fits too.
 pub fn put_row(rest: &mut [u64], row: Row)
     ensures { rest.new ≡ over (words_of row) rest.old }
 {
-    let words = [
-        row.kind, row.number, row.flag, row.first, row.count, row.start, row.len, row.named,
-    ];
     match rest.first_chunk_mut() {
-        Some(whole) => *whole = words,
-        None => put_words(rest, &words),
+        Some(whole) => *whole = words_of(row),
+        None => put_words(rest, &words_of(row)),
     }
 }

@@ -6,4 +6,5 @@ use Rattle.table.proofs.Laws.Buffers.{over-fits}
 use Rattle.table.proofs.row.put_row.Goals as goal
 
 pub returns-in-Some : goal.returns-in-Some
-returns-in-Some c = sym (over-fits (words_of c.args.row) c.args.rest.now (c.in-Some.ensures.variant.0 refl))
+returns-in-Some c =
+    rw c.words_of.ensures (sym (over-fits (words_of c.args.row) c.args.rest.now (c.in-Some.ensures.variant.0 refl)))
